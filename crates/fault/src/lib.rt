@@ -7,6 +7,8 @@ mod code;
 
 pub use code::FaultCode;
 pub use code::Part;
+pub use code::PartDebug;
+pub use code::PartPartialEq;
 
 // A refusal of any part. A refusal that passes through an upper part is kept whole inside the upper part's.
 pub trait Fault {

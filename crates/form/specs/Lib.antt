@@ -1,0 +1,4 @@
+pub mod Forms
+pub mod Evaluation
+pub mod Soundness
+pub mod Sheets

@@ -1,0 +1,5 @@
+pub mod Products
+pub mod Evals
+pub mod Roots
+pub mod Lines
+pub mod Transfer

@@ -1,0 +1,7 @@
+pub mod Columns
+pub mod Undone
+pub mod Ranks
+pub mod Spells
+pub mod Fours
+pub mod Normals
+pub mod Coordinates

@@ -1,0 +1,4 @@
+pub mod Counts
+pub mod Places
+pub mod Shapes
+pub mod Points
