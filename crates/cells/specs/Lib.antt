@@ -1,0 +1,3 @@
+pub mod ByteStores
+pub mod Refusals
+pub mod Stores
