@@ -62,9 +62,10 @@ bytes-back : (bs : List ℕ) → AreBytes bs → map entry-byte (map byte-entry 
 bytes-back [] h = refl
 bytes-back (b ∷ bs) h = let p = byte-back b (h 0) in let q = bytes-back bs (λ i. h (suc i)) in cc
 
+pub front-bytes : (n : ℕ) (bs : List ℕ) → AreBytes bs → AreBytes (take n bs)
+front-bytes n bs h i = elim (cases-lt i n) [
+    inl k ↦ rw (getD-take n bs i 0 k) (h i)
+  | inr k ↦ (let l = length-take n bs in rw (getD-past (take n bs) i 0 (omega arith)) (omega arith)) ]
+
 pub bytes-told : BytesTold
-bytes-told bs h =
-    let front : AreBytes (take 65536 bs) = λ i. elim (cases-lt i 65536) [
-            inl k ↦ rw (getD-take 65536 bs i 0 k) (h i)
-          | inr k ↦ (let l = length-take 65536 bs in rw (getD-past (take 65536 bs) i 0 (omega arith)) (omega arith)) ] in
-    sym (ap (λ f. f ++ drop 65536 bs) (bytes-back (take 65536 bs) front) ∙ take-append-drop 65536 bs)
+bytes-told bs h = sym (ap (λ f. f ++ drop 65536 bs) (bytes-back (take 65536 bs) (front-bytes 65536 bs h)) ∙ take-append-drop 65536 bs)

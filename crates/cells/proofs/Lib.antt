@@ -1,2 +1,3 @@
-pub mod Cases
 pub mod ByteCells
+pub mod Cases
+pub mod HalfCells

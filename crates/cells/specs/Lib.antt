@@ -1,3 +1,4 @@
 pub mod ByteStores
+pub mod HalfStores
 pub mod Refusals
 pub mod Stores

@@ -4,7 +4,7 @@ ghost use mathlib.Core.List.{List, [], _∷_};
 ghost use Prim.Native.Nat.{ℕ};
 ghost use denote.Ref.{now, name};
 ghost use Rattle.cells.specs.Stores.{Meaning};
-ghost use Rattle.cells.specs.ByteStores.{byte-meaning, byte-kept, BytesTold};
+ghost use Rattle.cells.specs.ByteStores.{byte-entry, byte-meaning, byte-kept, BytesTold};
 use crate::entries::Entry;
 use crate::faults::StoreFault;
 use crate::stores::Store;
@@ -49,6 +49,12 @@ pub impl<'a> Default for ByteStore<'a> as ByteStoreDefault {
     }
 }
 
+fn entry_of(byte: u8) -> Entry
+    ensures { λ r. ⌜ r ≡ byte-entry byte ⌝ }
+{
+    if byte == MISSING { Entry::Missing } else { Entry::Symbol(byte) }
+}
+
 pub impl<'a> Store for ByteStore<'a> as ByteStoreStore {
     ghost meaning = { λ s. byte-meaning (now (s .bytes)) };
 
@@ -70,8 +76,7 @@ pub impl<'a> Store for ByteStore<'a> as ByteStoreStore {
         if i >= self.count() {
             return Err(StoreFault::NoEntry { position: i });
         }
-        let byte = self.bytes[i];
-        if byte == MISSING { Ok(Entry::Missing) } else { Ok(Entry::Symbol(byte)) }
+        Ok(entry_of(self.bytes[i]))
     }
 }
 

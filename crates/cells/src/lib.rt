@@ -2,6 +2,7 @@
 mod byte;
 mod entries;
 mod faults;
+mod half;
 mod stores;
 
 pub use byte::ByteStore;
@@ -11,5 +12,9 @@ pub use byte::ByteStoreWritable;
 pub use entries::Entry;
 pub use faults::StoreFault;
 pub use faults::StoreFaultCoded;
+pub use half::HalfStore;
+pub use half::HalfStoreDefault;
+pub use half::HalfStoreStore;
+pub use half::HalfStoreWritable;
 pub use stores::Store;
 pub use stores::WritableStore;
