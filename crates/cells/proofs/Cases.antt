@@ -1,8 +1,10 @@
 -- What each call answers and leaves, by case.
 use mathlib.Core.Path.{_≡_, refl, sym, ap, _∙_}
+use mathlib.Core.Logic.{inl, inr}
 use Prim.Native.Nat.{ℕ, _<_, _≤_}
+use native.Mathlib.Omega.{arith}
 use lib.Dec.{ltb}
-use Rattle.std.proofs.shelf.Tests.{lt-ltb, le-ltb, cond-true, cond-false}
+use Rattle.std.proofs.shelf.Tests.{lt-ltb, le-ltb, cond-true, cond-false, cases-lt}
 use Rattle.std.specs.declared.option.Option.{Option}
 use Rattle.std.specs.declared.option.Option.the-variants.{Some, None}
 use Rattle.std.specs.declared.result.Result.{Result}
@@ -62,3 +64,33 @@ module _ (m : Meaning) (i : ℕ) where
 
     pub put-some : (m′ : Meaning) → i < count-of m → v < m .alphabet → m′ ≡ with-entry m i (Symbol v) → Done (Ok tt) (put-answer m i v) m′ (put-in m i v)
     put-some m′ h k e = accepted (put-fault (count-of m) (m .alphabet) i v) m (with-entry m i (Symbol v)) m′ (put-within (count-of m) (m .alphabet) i v h k) e
+
+-- what follows from the answer
+
+unless-ok : {A : Type 0} (f : Option StoreFault) (a x : A) → unless f a ≡ Ok x → f ≡ None
+unless-ok (Some e) a x p = let z : _≡_ {A = ℕ} 0 1 = cc in absurd (omega arith)
+unless-ok None a x p = refl
+
+unless-err : {A : Type 0} (f : Option StoreFault) (a : A) (e : StoreFault) → unless f a ≡ Err e → f ≡ Some e
+unless-err (Some d) a e p = cc
+unless-err None a e p = let z : _≡_ {A = ℕ} 0 1 = cc in absurd (omega arith)
+
+-- a put that is not refused
+put-apart : (n a i v : ℕ) → put-fault n a i v ≡ None → (i < n) × (v < a)
+put-apart n a i v p = elim (cases-lt i n) [
+    inl h ↦ elim (cases-lt v a) [
+        inl k ↦ (h, k)
+      | inr k ↦ (let q = put-above n a i v h k in let z : _≡_ {A = ℕ} 0 1 = cc in absurd (omega arith)) ]
+  | inr h ↦ (let q = put-past n a i v h in let z : _≡_ {A = ℕ} 0 1 = cc in absurd (omega arith)) ]
+
+module _ (m : Meaning) (i v : ℕ) (r : Result (Unit {0}) StoreFault) (a : r ≡ put-answer m i v) where
+  pub put-ok : (u : Unit {0}) → r ≡ Ok u → (i < count-of m) × (v < m .alphabet) × (put-in m i v ≡ with-entry m i (Symbol v))
+  put-ok u b =
+      let f = unless-ok (put-fault (count-of m) (m .alphabet) i v) tt u (sym a ∙ b) in
+      let p = put-apart (count-of m) (m .alphabet) i v f in
+      (p .0, p .1, ap (λ g. left-unless g m (with-entry m i (Symbol v))) f)
+
+  pub put-err : (e : StoreFault) → r ≡ Err e → (put-fault (count-of m) (m .alphabet) i v ≡ Some e) × (put-in m i v ≡ m)
+  put-err e b =
+      let f = unless-err (put-fault (count-of m) (m .alphabet) i v) tt e (sym a ∙ b) in
+      (f, ap (λ g. left-unless g m (with-entry m i (Symbol v))) f)

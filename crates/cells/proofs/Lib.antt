@@ -1,3 +1,4 @@
 pub mod ByteCells
 pub mod Cases
 pub mod HalfCells
+pub mod Laying

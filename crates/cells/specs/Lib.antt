@@ -1,4 +1,5 @@
 pub mod ByteStores
 pub mod HalfStores
+pub mod Puts
 pub mod Refusals
 pub mod Stores

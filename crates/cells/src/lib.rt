@@ -3,6 +3,7 @@ mod byte;
 mod entries;
 mod faults;
 mod half;
+mod puts;
 mod stores;
 
 pub use byte::ByteStore;
@@ -16,5 +17,6 @@ pub use half::HalfStore;
 pub use half::HalfStoreDefault;
 pub use half::HalfStoreStore;
 pub use half::HalfStoreWritable;
+pub use puts::put_all;
 pub use stores::Store;
 pub use stores::WritableStore;
