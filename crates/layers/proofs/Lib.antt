@@ -1,0 +1,4 @@
+pub mod Divisors
+pub mod StrideView
+pub mod Views
+pub mod WindowView

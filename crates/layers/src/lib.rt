@@ -1,0 +1,16 @@
+// Layers over stores of cells. A layer holds the store below by value, and never changes an entry there that it does not show.
+mod pair;
+mod pairs;
+mod stride;
+mod through;
+mod window;
+
+pub use pair::StrideFault;
+pub use pair::StridePair;
+pub use pairs::StrideFaultCoded;
+pub use stride::Stride;
+pub use stride::StrideStore;
+pub use stride::StrideWritable;
+pub use window::Window;
+pub use window::WindowStore;
+pub use window::WindowWritable;

@@ -1,0 +1,82 @@
+// A stride over a store.
+ghost use mathlib.Core.Path.{_≡_};
+ghost use Prim.Native.Nat.{ℕ, _*_, _%_};
+ghost use denote.Ref.{now};
+ghost use Rattle.layers.specs.Places.{place-in};
+ghost use Rattle.layers.specs.Strides.{StrideKept, StrideTold, stride-meaning, stride-kept};
+use crate::pair::StridePair;
+use crate::through::put_at;
+use crate::through::read_at;
+use crate::through::wipe_at;
+use cells::Entry;
+use cells::Store;
+use cells::StoreFault;
+use cells::WritableStore;
+
+// Entry i is entry (step × i) mod n below. Over a store with fewer than n entries there is none.
+#[derive(Drop)]
+pub struct Stride<S> {
+    below: S,
+    pair: StridePair,
+}
+
+impl<S: Store> Stride<S> {
+    // What a stride means and what no call changes tell, then and later, what stands below.
+    pub fn new(pair: StridePair, below: S) -> Stride<S>
+        ensures below { λ r. ⌜ r .below ≡ below ⌝ }
+        ensures pair { λ r. ⌜ r .pair ≡ pair ⌝ }
+        ensures told { λ _. ⌜ StrideTold (S·Store .Kept) ⌝ }
+    {
+        Stride { below, pair }
+    }
+
+    // Gives the store below back.
+    pub fn into_below(self) -> S
+        ensures { λ r. ⌜ r ≡ self .below ⌝ }
+    {
+        let Stride { below, pair: _ } = self;
+        below
+    }
+
+    // Where entry `i` lies below.
+    fn place(&self, i: usize) -> Option<usize>
+        ensures { λ r. ⌜ r ≡ place-in (stride-meaning (S·Store .meaning (now (self .entry) .below)) (now (self .entry) .pair .n) (now (self .entry) .pair .step)) i ((now (self .entry) .pair .step * i) % now (self .entry) .pair .n) ⌝ }
+    {
+        if i < self.count() { Some(self.pair.step * i % self.pair.n) } else { None }
+    }
+}
+
+pub impl<S: Store> Store for Stride<S> as StrideStore {
+    ghost meaning = { λ s. stride-meaning (S·Store .meaning (s .below)) (s .pair .n) (s .pair .step) };
+
+    ghost Kept = { StrideKept (S·Store .Kept) };
+
+    ghost kept = { λ s. stride-kept (S·Store .meaning (s .below)) (S·Store .kept (s .below)) (s .pair .n) (s .pair .step) };
+
+    ghost lent = { λ s. S·Store .lent (s .below) };
+
+    fn count(&self) -> usize {
+        if self.below.count() < self.pair.n { 0 } else { self.pair.n }
+    }
+
+    fn alphabet(&self) -> u8 {
+        self.below.alphabet()
+    }
+
+    fn read(&mut self, i: usize) -> Result<Entry, StoreFault> {
+        let place = self.place(i);
+        read_at(&mut self.below, place, i)
+    }
+}
+
+pub impl<S: WritableStore> WritableStore for Stride<S> as StrideWritable {
+    fn put(&mut self, i: usize, symbol: u8) -> Result<(), StoreFault> {
+        let place = self.place(i);
+        put_at(&mut self.below, place, i, symbol)
+    }
+
+    fn wipe(&mut self, i: usize) -> Result<(), StoreFault> {
+        let place = self.place(i);
+        wipe_at(&mut self.below, place, i)
+    }
+}

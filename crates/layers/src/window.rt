@@ -1,0 +1,89 @@
+// A window on a store.
+ghost use mathlib.Core.Path.{_≡_};
+ghost use Prim.Native.Nat.{ℕ, _+_};
+ghost use denote.Ref.{now};
+ghost use Rattle.layers.specs.Places.{place-in};
+ghost use Rattle.layers.specs.Windows.{WindowKept, WindowTold, window-meaning, window-kept};
+use crate::through::put_at;
+use crate::through::read_at;
+use crate::through::wipe_at;
+use cells::Entry;
+use cells::Store;
+use cells::StoreFault;
+use cells::WritableStore;
+
+// Shows the entries below from `start` on, at most `len` of them: shorter or empty past the end.
+#[derive(Drop)]
+pub struct Window<S> {
+    below: S,
+    start: usize,
+    len: usize,
+}
+
+impl<S: Store> Window<S> {
+    // Any numbers are a window. What it means and what no call changes tell, then and later, what stands below.
+    pub fn new(below: S, start: usize, len: usize) -> Window<S>
+        ensures below { λ r. ⌜ r .below ≡ below ⌝ }
+        ensures start { λ r. ⌜ r .start ≡ start ⌝ }
+        ensures len { λ r. ⌜ r .len ≡ len ⌝ }
+        ensures told { λ _. ⌜ WindowTold (S·Store .Kept) ⌝ }
+    {
+        Window { below, start, len }
+    }
+
+    // Gives the store below back.
+    pub fn into_below(self) -> S
+        ensures { λ r. ⌜ r ≡ self .below ⌝ }
+    {
+        let Window { below, start: _, len: _ } = self;
+        below
+    }
+
+    // Where entry `i` lies below.
+    fn place(&self, i: usize) -> Option<usize>
+        ensures { λ r. ⌜ r ≡ place-in (window-meaning (S·Store .meaning (now (self .entry) .below)) (now (self .entry) .start) (now (self .entry) .len)) i (now (self .entry) .start + i) ⌝ }
+    {
+        if i >= self.len {
+            return None;
+        }
+        if i >= self.below.count().saturating_sub(self.start) {
+            return None;
+        }
+        Some(self.start + i)
+    }
+}
+
+pub impl<S: Store> Store for Window<S> as WindowStore {
+    ghost meaning = { λ w. window-meaning (S·Store .meaning (w .below)) (w .start) (w .len) };
+
+    ghost Kept = { WindowKept (S·Store .Kept) };
+
+    ghost kept = { λ w. window-kept (S·Store .meaning (w .below)) (S·Store .kept (w .below)) (w .start) (w .len) };
+
+    ghost lent = { λ w. S·Store .lent (w .below) };
+
+    fn count(&self) -> usize {
+        self.below.count().saturating_sub(self.start).min(self.len)
+    }
+
+    fn alphabet(&self) -> u8 {
+        self.below.alphabet()
+    }
+
+    fn read(&mut self, i: usize) -> Result<Entry, StoreFault> {
+        let place = self.place(i);
+        read_at(&mut self.below, place, i)
+    }
+}
+
+pub impl<S: WritableStore> WritableStore for Window<S> as WindowWritable {
+    fn put(&mut self, i: usize, symbol: u8) -> Result<(), StoreFault> {
+        let place = self.place(i);
+        put_at(&mut self.below, place, i, symbol)
+    }
+
+    fn wipe(&mut self, i: usize) -> Result<(), StoreFault> {
+        let place = self.place(i);
+        wipe_at(&mut self.below, place, i)
+    }
+}
