@@ -1,11 +1,13 @@
 -- What a layer answers and leaves, from what the store below does at a place. `view` is what the layer means over what the store below means, and `rest` what no call changes.
 use mathlib.Core.Path.{_≡_, refl, sym, ap, _∙_}
+use mathlib.Core.List.{List, [], _∷_}
 use mathlib.Core.Logic.{inl, inr}
-use Prim.Native.Nat.{ℕ, _<_, _≤_}
+use Prim.Native.Nat.{ℕ, _+_, _<_, _≤_}
 use native.Mathlib.Omega.{arith}
 use lib.Dec.{ltb}
+use lib.ListN.{length}
 use Rattle.std.proofs.shelf.Tests.{lt-ltb, le-ltb, cond-true, cond-false, cases-lt}
-use Rattle.std.proofs.shelf.Lists.{getD-past}
+use Rattle.std.proofs.shelf.Lists.{getD-past, length-set}
 use Rattle.std.specs.declared.option.Option.{Option}
 use Rattle.std.specs.declared.option.Option.the-variants.{Some, None}
 use Rattle.std.specs.declared.result.Result.{Result}
@@ -15,6 +17,7 @@ use Rattle.cells.specs.declared.entries.Entry.the-variants.{Symbol, Missing}
 use Rattle.cells.specs.declared.faults.StoreFault.{StoreFault}
 use Rattle.cells.specs.declared.faults.StoreFault.the-variants.{NoEntry, NotASymbol}
 use Rattle.cells.specs.Stores.{Meaning, Sound, count-of, entry-at, with-entry, read-answer, wipe-answer, wiped, put-answer, put-in}
+use Rattle.cells.specs.Puts.{laid}
 use Rattle.cells.proofs.Cases.{Done, read-none, read-some, wipe-none, wipe-some, put-none, put-not, put-some}
 use Rattle.layers.specs.Places.{place-in, told-at, read-through, wipe-through, wiped-through, put-through, put-below}
 
@@ -97,3 +100,13 @@ pub sound-passed : (m m′ : Meaning) (at : ℕ → ℕ) → m′ .alphabet ≡ 
 sound-passed m m′ at a same s i v e = elim (cases-lt i (count-of m′)) [
     inl h ↦ omega (arith, s (at i) v (sym (same i h) ∙ e))
   | inr h ↦ (let p = getD-past (m′ .entries) i Missing h in let z : _≡_ {A = ℕ} 0 1 = cc in absurd (omega arith)) ]
+
+-- symbols that stand in entries of a layer stand at their places below
+pub laid-passed : {R : Type 0} (view : Meaning → Meaning) (rest : Meaning → R) (place at : ℕ → ℕ) → ((x : Meaning) (j : ℕ) → j < count-of (view x) → Shows view rest x j (place j)) → (m : Meaning) (i : ℕ) (vs : List ℕ) → ((j : ℕ) → j < i + length vs → at j < count-of (view m)) → (view (laid (λ j. place (at j)) m i vs) ≡ laid at (view m) i vs) × (rest (laid (λ j. place (at j)) m i vs) ≡ rest m)
+laid-passed view rest place at shows m i [] h = (refl, refl)
+laid-passed view rest place at shows m i (v ∷ vs) h =
+    let s = shows m (at i) (h i (omega arith)) in
+    let m1 = with-entry m (place (at i)) (Symbol v) in
+    let n : count-of (view m1) ≡ count-of (view m) = ap count-of (s .goes (Symbol v)) ∙ length-set (view m .entries) (at i) (Symbol v) in
+    let r = laid-passed view rest place at shows m1 (i + 1) vs (λ j l. omega (arith, h j (omega arith))) in
+    (r .0 ∙ ap (λ x. laid at x (i + 1) vs) (s .goes (Symbol v)), r .1 ∙ s .stays (Symbol v))
