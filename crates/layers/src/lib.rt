@@ -6,7 +6,13 @@ mod through;
 mod window;
 
 pub use pair::StrideFault;
+pub use pair::StrideFaultDebug;
+pub use pair::StrideFaultEq;
+pub use pair::StrideFaultPartialEq;
 pub use pair::StridePair;
+pub use pair::StridePairDebug;
+pub use pair::StridePairEq;
+pub use pair::StridePairPartialEq;
 pub use pairs::StrideFaultCoded;
 pub use stride::Stride;
 pub use stride::StrideStore;

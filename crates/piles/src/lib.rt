@@ -55,3 +55,84 @@ pub fn put_into_halves(bytes: &mut [u8], start: usize, len: usize, pair: StrideP
     let mut store = HalfStore::new(bytes);
     put_through(&mut store, start, len, pair, symbols)
 }
+
+#[cfg(test)]
+mod tests {
+    use crate::put_into_bytes;
+    use crate::put_into_halves;
+    use cells::ByteStore;
+    use cells::ByteStoreStore;
+    use cells::ByteStoreWritable;
+    use cells::Entry;
+    use cells::EntryDebug;
+    use cells::EntryPartialEq;
+    use cells::HalfStore;
+    use cells::HalfStoreStore;
+    use cells::HalfStoreWritable;
+    use cells::Store;
+    use cells::StoreFault;
+    use cells::StoreFaultCoded;
+    use cells::StoreFaultDebug;
+    use cells::StoreFaultPartialEq;
+    use cells::WritableStore;
+    use fault::Fault;
+    use layers::StrideFault;
+    use layers::StrideFaultCoded;
+    use layers::StrideFaultDebug;
+    use layers::StrideFaultPartialEq;
+    use layers::StridePair;
+    use layers::StridePairDebug;
+    use layers::StridePairPartialEq;
+    use std::test::*;
+
+    #[test]
+    fn fifteen_takes_step_two_and_not_three() -> Result<(), Fail> {
+        check(StridePair::new(15, 2).is_ok())?;
+        check_eq(StridePair::new(15, 3), Err(StrideFault::NoStride))?;
+        check(StridePair::new(1, 1).is_ok())?;
+        check(StridePair::new(0, 0).is_err())?;
+        check(StridePair::new(65_536, 65_535).is_ok())?;
+        check(StridePair::new(65_537, 2).is_err())?;
+        check_eq(StrideFault::NoStride.number(), 12)
+    }
+
+    #[test]
+    fn bytes_as_entries() -> Result<(), Fail> {
+        let mut bytes = [255, 254];
+        let mut store = ByteStore::new(&mut bytes);
+        check_eq(store.read(0), Ok(Entry::Missing))?;
+        check_eq(store.read(1), Ok(Entry::Symbol(254)))?;
+        check_eq(store.put(0, 255), Err(StoreFault::NotASymbol { position: 0 }))?;
+        check_eq(store.wipe(2), Err(StoreFault::NoEntry { position: 2 }))
+    }
+
+    #[test]
+    fn halves_as_entries() -> Result<(), Fail> {
+        let mut bytes = [0xf3, 0, 0, 0, 0, 0, 0, 0x10];
+        let mut store = HalfStore::new(&mut bytes);
+        check_eq(store.count(), 16)?;
+        check_eq(store.read(0), Ok(Entry::Symbol(3)))?;
+        check_eq(store.read(1), Ok(Entry::Missing))?;
+        check_eq(store.read(15), Ok(Entry::Symbol(1)))?;
+        check_eq(store.put(15, 14), Ok(()))?;
+        check_eq(store.read(15), Ok(Entry::Symbol(14)))
+    }
+
+    #[test]
+    fn pile_over_bytes() -> Result<(), Fail> {
+        let pair = StridePair::new(5, 2)?;
+        let mut bytes = [9; 8];
+        check_eq(put_into_bytes(&mut bytes, 1, 6, pair, &[0, 1, 2, 3]), Ok(()))?;
+        check_eq(bytes, [9, 0, 3, 1, 9, 2, 9, 9])
+    }
+
+    #[test]
+    fn pile_over_halves() -> Result<(), Fail> {
+        let pair = StridePair::new(3, 2)?;
+        let mut bytes = [0xff; 2];
+        let fault = StoreFault::NotASymbol { position: 2 };
+        check_eq(put_into_halves(&mut bytes, 1, 3, pair, &[1, 2, 15]), Err(fault))?;
+        check_eq(bytes, [0x1f, 0x2f])?;
+        check_eq(fault.number(), 11)
+    }
+}
