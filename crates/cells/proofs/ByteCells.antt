@@ -11,7 +11,7 @@ use Rattle.std.proofs.shelf.Tests.{lt-ltb, le-ltb, cond-true, cond-false, cases
 use Rattle.std.proofs.shelf.Lists.{length-map, length-take, getD-map, getD-take, getD-past, map-set, drop-set-lt, take-append-drop}
 use Rattle.cells.specs.declared.entries.Entry.{Entry}
 use Rattle.cells.specs.declared.entries.Entry.the-variants.{Symbol, Missing}
-use Rattle.cells.specs.Stores.{Meaning, Sound, count-of, entry-at, with-entry}
+use Rattle.cells.specs.Stores.{InAlphabet, Meaning, Sound, count-of, entry-at, with-entry}
 use Rattle.cells.specs.ByteStores.{byte-entry, byte-meaning, byte-kept, entry-byte, byte-row, AreBytes, BytesTold}
 
 pub byte-symbol : (b : ℕ) → b < 255 → byte-entry b ≡ Symbol b
@@ -43,16 +43,18 @@ byte-set bs i v =
 pub byte-rest : (bs : List ℕ) (i v : ℕ) → i < count-of (byte-meaning bs) → byte-kept (set bs i v) ≡ byte-kept bs
 byte-rest bs i v h = let n = byte-count bs in drop-set-lt 65536 bs i v (omega arith)
 
--- a symbol is below 255
-byte-below : (b v : ℕ) → byte-entry b ≡ Symbol v → v < 255
-byte-below b v e = elim (cases-lt b 255) [
-    inl h ↦ (let s = byte-symbol b h in let q : v ≡ b = cc in omega arith)
-  | inr h ↦ (let s = byte-missing b h in let z : _≡_ {A = ℕ} 0 1 = cc in absurd (omega arith)) ]
+-- a byte that stands for an entry is read as it
+pub byte-again : (e : Entry) → InAlphabet 255 e → byte-entry (entry-byte e) ≡ e
+byte-again (Symbol v) h = byte-symbol v h
+byte-again Missing h = byte-missing 255 (omega arith)
+
+byte-in : (b : ℕ) → InAlphabet 255 (byte-entry b)
+byte-in b = elim (cases-lt b 255) [ inl h ↦ rw (byte-symbol b h) h | inr h ↦ rw (byte-missing b h) tt ]
 
 pub byte-sound : (bs : List ℕ) → Sound (byte-meaning bs)
-byte-sound bs i v e = elim (cases-lt i (count-of (byte-meaning bs))) [
-    inl h ↦ byte-below (getD bs i 0) v (sym (byte-at bs i h) ∙ e)
-  | inr h ↦ (let p = getD-past (byte-meaning bs .entries) i Missing h in let z : _≡_ {A = ℕ} 0 1 = cc in absurd (omega arith)) ]
+byte-sound bs i = elim (cases-lt i (count-of (byte-meaning bs))) [
+    inl h ↦ rw (byte-at bs i h) (byte-in (getD bs i 0))
+  | inr h ↦ rw (getD-past (byte-meaning bs .entries) i Missing h) tt ]
 
 -- an entry stands in the byte that it was read from
 byte-back : (b : ℕ) → b < 256 → entry-byte (byte-entry b) ≡ b

@@ -10,7 +10,7 @@ use Rattle.std.proofs.shelf.Tests.{lt-ltb, le-ltb, cond-true, cond-false, cases
 use Rattle.std.proofs.shelf.Lists.{length-take, getD-take, getD-past, drop-set-lt, take-append-drop}
 use Rattle.cells.specs.declared.entries.Entry.{Entry}
 use Rattle.cells.specs.declared.entries.Entry.the-variants.{Symbol, Missing}
-use Rattle.cells.specs.Stores.{Meaning, Sound, count-of, entry-at, with-entry}
+use Rattle.cells.specs.Stores.{InAlphabet, Meaning, Sound, count-of, entry-at, with-entry}
 use Rattle.cells.specs.ByteStores.{AreBytes}
 use Rattle.cells.specs.HalfStores.{half-entry, half-entries, half-meaning, half-kept, half-of, with-half, entry-half, half-bytes, half-row, HalvesTold}
 use Rattle.cells.proofs.ByteCells.{take-set-in, front-bytes}
@@ -65,16 +65,22 @@ half-set bs i v h k =
 pub half-rest : (bs : List ℕ) (i x : ℕ) → i < count-of (half-meaning bs) → half-kept (set bs (i / 2) x) ≡ half-kept bs
 half-rest bs i x h = let n = half-count bs in drop-set-lt 32768 bs (i / 2) x (omega arith)
 
--- a symbol is below 15
-half-below : (h v : ℕ) → half-entry h ≡ Symbol v → v < 15
-half-below h v e = elim (cases-lt h 15) [
-    inl l ↦ (let s = half-symbol h l in let q : v ≡ h = cc in omega arith)
-  | inr l ↦ (let s = half-missing h l in let z : _≡_ {A = ℕ} 0 1 = cc in absurd (omega arith)) ]
+-- a half that stands for an entry is read as it
+pub half-again : (e : Entry) → InAlphabet 15 e → half-entry (entry-half e) ≡ e
+half-again (Symbol v) h = half-symbol v h
+half-again Missing h = half-missing 15 (omega arith)
+
+pub entry-half-below : (e : Entry) → InAlphabet 15 e → entry-half e < 16
+entry-half-below (Symbol v) h = omega arith
+entry-half-below Missing h = omega arith
+
+half-in : (h : ℕ) → InAlphabet 15 (half-entry h)
+half-in h = elim (cases-lt h 15) [ inl l ↦ rw (half-symbol h l) l | inr l ↦ rw (half-missing h l) tt ]
 
 pub half-sound : (bs : List ℕ) → Sound (half-meaning bs)
-half-sound bs i v e = elim (cases-lt i (count-of (half-meaning bs))) [
-    inl h ↦ half-below (half-of (getD bs (i / 2) 0) (i % 2)) v (sym (half-at bs i h) ∙ e)
-  | inr h ↦ (let p = getD-past (half-meaning bs .entries) i Missing h in let z : _≡_ {A = ℕ} 0 1 = cc in absurd (omega arith)) ]
+half-sound bs i = elim (cases-lt i (count-of (half-meaning bs))) [
+    inl h ↦ rw (half-at bs i h) (half-in (half-of (getD bs (i / 2) 0) (i % 2)))
+  | inr h ↦ rw (getD-past (half-meaning bs .entries) i Missing h) tt ]
 
 -- an entry stands in the half that it was read from
 half-back : (h : ℕ) → h < 16 → entry-half (half-entry h) ≡ h

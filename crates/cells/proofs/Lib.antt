@@ -2,4 +2,4 @@ pub mod ByteCells
 pub mod Cases
 pub mod HalfCells
 pub mod Laying
-pub mod Lending
+pub mod Lenders

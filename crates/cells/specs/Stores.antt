@@ -1,5 +1,4 @@
 -- What a store means, and what each call answers and leaves.
-use mathlib.Core.Path.{_≡_}
 use mathlib.Core.List.{List}
 use Prim.Native.Nat.{ℕ, _<_}
 use lib.ListN.{length, getD, set}
@@ -25,9 +24,14 @@ count-of m = length (m .entries)
 abbrev pub entry-at : Meaning → ℕ → Entry
 entry-at m i = getD (m .entries) i Missing
 
--- every symbol is below the alphabet
+-- a symbol is below the alphabet, and missing is no symbol
+abbrev pub InAlphabet : ℕ → Entry → Type 0
+InAlphabet alphabet (Symbol v) = v < alphabet
+InAlphabet alphabet Missing = Unit {0}
+
+-- every symbol in the entries is below the alphabet
 abbrev pub Sound : Meaning → Type 0
-Sound m = (i v : ℕ) → entry-at m i ≡ Symbol v → v < m .alphabet
+Sound m = (i : ℕ) → InAlphabet (m .alphabet) (entry-at m i)
 
 -- entry i becomes e; every other entry, the count and the alphabet stay
 abbrev pub with-entry : Meaning → ℕ → Entry → Meaning

@@ -1,10 +1,10 @@
 // One cell a byte.
 ghost use mathlib.Core.Path.{_≡_};
 ghost use mathlib.Core.List.{List, [], _∷_};
-ghost use Prim.Native.Nat.{ℕ};
+ghost use Prim.Native.Nat.{ℕ, _<_, min};
 ghost use denote.Ref.{now, name};
-ghost use Rattle.cells.specs.Stores.{Meaning};
-ghost use Rattle.cells.specs.ByteStores.{byte-entry, byte-meaning, byte-kept, BytesTold};
+ghost use Rattle.cells.specs.Stores.{InAlphabet, Meaning, count-of, entry-at, with-entry};
+ghost use Rattle.cells.specs.ByteStores.{byte-entry, byte-meaning, byte-kept, entry-byte};
 use crate::entries::Entry;
 use crate::faults::StoreFault;
 use crate::stores::Store;
@@ -21,11 +21,10 @@ pub struct ByteStore<'a> {
 }
 
 impl<'a> ByteStore<'a> {
-    // Any bytes are a store. What it means and what no call changes tell, then and later, which bytes stand there.
+    // Any bytes are a store.
     pub fn new(bytes: &'a mut [u8]) -> ByteStore<'a>
         ensures same { λ r. ⌜ now (r .bytes) ≡ now (bytes .entry) ⌝ }
         ensures lent { λ r. ⌜ name (r .bytes) ≡ name (bytes .entry) ⌝ }
-        ensures told { λ _. ⌜ BytesTold ⌝ }
     {
         ByteStore { bytes }
     }
@@ -38,6 +37,44 @@ impl<'a> ByteStore<'a> {
         let ByteStore { bytes } = self;
         bytes
     }
+
+    fn entry(&self, i: usize) -> Entry
+        requires { ⌜ i < count-of (byte-meaning (now (now self .bytes))) ⌝ }
+        ensures { λ r. ⌜ r ≡ entry-at (byte-meaning (now (now (self .entry) .bytes))) i ⌝ }
+    {
+        entry_of(self.bytes[i])
+    }
+
+    fn write(&mut self, i: usize, entry: Entry)
+        requires { ⌜ i < count-of (byte-meaning (now (now self .bytes))) ⌝ ∗ ⌜ InAlphabet 255 entry ⌝ }
+        ensures done { λ _. ⌜ byte-meaning (now (now (self .exit) .bytes)) ≡ with-entry (byte-meaning (now (now (self .entry) .bytes))) i entry ⌝ }
+        ensures kept { λ _. ⌜ byte-kept (now (now (self .exit) .bytes)) ≡ byte-kept (now (now (self .entry) .bytes)) ⌝ }
+        ensures lent { λ _. ⌜ name (now (self .exit) .bytes) ≡ name (now (self .entry) .bytes) ⌝ }
+    {
+        self.bytes[i] = code_of(entry);
+    }
+}
+
+fn entry_of(byte: u8) -> Entry
+    ensures { λ r. ⌜ r ≡ byte-entry byte ⌝ }
+{
+    if byte == MISSING { Entry::Missing } else { Entry::Symbol(byte) }
+}
+
+// The byte in which an entry stands.
+fn code_of(entry: Entry) -> u8
+    ensures { λ r. ⌜ r ≡ entry-byte entry ⌝ }
+{
+    match entry {
+        Entry::Symbol(symbol) => symbol,
+        Entry::Missing => MISSING,
+    }
+}
+
+fn cells_of(bytes: usize) -> usize
+    ensures { λ r. ⌜ r ≡ min 65536 bytes ⌝ }
+{
+    bytes.min(MOST_CELLS)
 }
 
 // A store of no cells.
@@ -47,12 +84,6 @@ pub impl<'a> Default for ByteStore<'a> as ByteStoreDefault {
     fn default() -> ByteStore<'a> {
         ByteStore { bytes: &mut [] }
     }
-}
-
-fn entry_of(byte: u8) -> Entry
-    ensures { λ r. ⌜ r ≡ byte-entry byte ⌝ }
-{
-    if byte == MISSING { Entry::Missing } else { Entry::Symbol(byte) }
 }
 
 pub impl<'a> Store for ByteStore<'a> as ByteStoreStore {
@@ -65,7 +96,7 @@ pub impl<'a> Store for ByteStore<'a> as ByteStoreStore {
     ghost lent = { λ s. name (s .bytes) ∷ [] };
 
     fn count(&self) -> usize {
-        self.bytes.len().min(MOST_CELLS)
+        cells_of(self.bytes.len())
     }
 
     fn alphabet(&self) -> u8 {
@@ -73,30 +104,31 @@ pub impl<'a> Store for ByteStore<'a> as ByteStoreStore {
     }
 
     fn read(&mut self, i: usize) -> Result<Entry, StoreFault> {
-        if i >= self.count() {
-            return Err(StoreFault::NoEntry { position: i });
+        match StoreFault::of_access(self.count(), i) {
+            Some(fault) => Err(fault),
+            None => Ok(self.entry(i)),
         }
-        Ok(entry_of(self.bytes[i]))
     }
 }
 
 pub impl<'a> WritableStore for ByteStore<'a> as ByteStoreWritable {
     fn put(&mut self, i: usize, symbol: u8) -> Result<(), StoreFault> {
-        if i >= self.count() {
-            return Err(StoreFault::NoEntry { position: i });
+        match StoreFault::of_put(self.count(), self.alphabet(), i, symbol) {
+            Some(fault) => Err(fault),
+            None => {
+                self.write(i, Entry::Symbol(symbol));
+                Ok(())
+            }
         }
-        if symbol >= self.alphabet() {
-            return Err(StoreFault::NotASymbol { position: i });
-        }
-        self.bytes[i] = symbol;
-        Ok(())
     }
 
     fn wipe(&mut self, i: usize) -> Result<(), StoreFault> {
-        if i >= self.count() {
-            return Err(StoreFault::NoEntry { position: i });
+        match StoreFault::of_access(self.count(), i) {
+            Some(fault) => Err(fault),
+            None => {
+                self.write(i, Entry::Missing);
+                Ok(())
+            }
         }
-        self.bytes[i] = MISSING;
-        Ok(())
     }
 }

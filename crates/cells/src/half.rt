@@ -1,10 +1,10 @@
 // Two cells a byte.
 ghost use mathlib.Core.Path.{_≡_};
 ghost use mathlib.Core.List.{List, [], _∷_};
-ghost use Prim.Native.Nat.{ℕ, _<_, _%_};
+ghost use Prim.Native.Nat.{ℕ, _*_, _%_, _<_, min};
 ghost use denote.Ref.{now, name};
-ghost use Rattle.cells.specs.Stores.{Meaning};
-ghost use Rattle.cells.specs.HalfStores.{half-entry, half-meaning, half-kept, half-of, with-half, HalvesTold};
+ghost use Rattle.cells.specs.Stores.{InAlphabet, Meaning, count-of, entry-at, with-entry};
+ghost use Rattle.cells.specs.HalfStores.{half-entry, half-meaning, half-kept, half-of, with-half, entry-half};
 use crate::entries::Entry;
 use crate::faults::StoreFault;
 use crate::stores::Store;
@@ -15,18 +15,17 @@ const MOST_BYTES: usize = 32_768;
 
 const MISSING: u8 = 15;
 
-// The lower four bits of a byte are its first cell. The half 15 is missing, any other is that symbol. Bytes past 32,768 are no cells.
+// The lower four bits of a byte are its first cell, the upper its second. The half 15 is missing, any other is that symbol. Bytes past 32,768 are no cells.
 #[derive(Drop)]
 pub struct HalfStore<'a> {
     bytes: &'a mut [u8],
 }
 
 impl<'a> HalfStore<'a> {
-    // Any bytes are a store. What it means and what no call changes tell, then and later, which bytes stand there.
+    // Any bytes are a store.
     pub fn new(bytes: &'a mut [u8]) -> HalfStore<'a>
         ensures same { λ r. ⌜ now (r .bytes) ≡ now (bytes .entry) ⌝ }
         ensures lent { λ r. ⌜ name (r .bytes) ≡ name (bytes .entry) ⌝ }
-        ensures told { λ _. ⌜ HalvesTold ⌝ }
     {
         HalfStore { bytes }
     }
@@ -39,14 +38,21 @@ impl<'a> HalfStore<'a> {
         let HalfStore { bytes } = self;
         bytes
     }
-}
 
-// A store of no cells.
-pub impl<'a> Default for HalfStore<'a> as HalfStoreDefault {
-    ghost isDefault = { λ s. now (s .bytes) ≡ [] };
+    fn entry(&self, i: usize) -> Entry
+        requires { ⌜ i < count-of (half-meaning (now (now self .bytes))) ⌝ }
+        ensures { λ r. ⌜ r ≡ entry-at (half-meaning (now (now (self .entry) .bytes))) i ⌝ }
+    {
+        entry_of(half_of(self.bytes[i / 2], i))
+    }
 
-    fn default() -> HalfStore<'a> {
-        HalfStore { bytes: &mut [] }
+    fn write(&mut self, i: usize, entry: Entry)
+        requires { ⌜ i < count-of (half-meaning (now (now self .bytes))) ⌝ ∗ ⌜ InAlphabet 15 entry ⌝ }
+        ensures done { λ _. ⌜ half-meaning (now (now (self .exit) .bytes)) ≡ with-entry (half-meaning (now (now (self .entry) .bytes))) i entry ⌝ }
+        ensures kept { λ _. ⌜ half-kept (now (now (self .exit) .bytes)) ≡ half-kept (now (now (self .entry) .bytes)) ⌝ }
+        ensures lent { λ _. ⌜ name (now (self .exit) .bytes) ≡ name (now (self .entry) .bytes) ⌝ }
+    {
+        self.bytes[i / 2] = with_half(self.bytes[i / 2], i, code_of(entry));
     }
 }
 
@@ -55,6 +61,16 @@ fn entry_of(half: u8) -> Entry
     ensures { λ r. ⌜ r ≡ half-entry half ⌝ }
 {
     if half == MISSING { Entry::Missing } else { Entry::Symbol(half) }
+}
+
+// The half in which an entry stands.
+fn code_of(entry: Entry) -> u8
+    ensures { λ r. ⌜ r ≡ entry-half entry ⌝ }
+{
+    match entry {
+        Entry::Symbol(symbol) => symbol,
+        Entry::Missing => MISSING,
+    }
 }
 
 // The half of `byte` that is cell `i`.
@@ -72,6 +88,21 @@ fn with_half(byte: u8, i: usize, half: u8) -> u8
     if i % 2 == 0 { byte / 16 * 16 + half } else { half * 16 + byte % 16 }
 }
 
+fn cells_of(bytes: usize) -> usize
+    ensures { λ r. ⌜ r ≡ 2 * min 32768 bytes ⌝ }
+{
+    2 * bytes.min(MOST_BYTES)
+}
+
+// A store of no cells.
+pub impl<'a> Default for HalfStore<'a> as HalfStoreDefault {
+    ghost isDefault = { λ s. now (s .bytes) ≡ [] };
+
+    fn default() -> HalfStore<'a> {
+        HalfStore { bytes: &mut [] }
+    }
+}
+
 pub impl<'a> Store for HalfStore<'a> as HalfStoreStore {
     ghost meaning = { λ s. half-meaning (now (s .bytes)) };
 
@@ -82,7 +113,7 @@ pub impl<'a> Store for HalfStore<'a> as HalfStoreStore {
     ghost lent = { λ s. name (s .bytes) ∷ [] };
 
     fn count(&self) -> usize {
-        2 * self.bytes.len().min(MOST_BYTES)
+        cells_of(self.bytes.len())
     }
 
     fn alphabet(&self) -> u8 {
@@ -90,30 +121,31 @@ pub impl<'a> Store for HalfStore<'a> as HalfStoreStore {
     }
 
     fn read(&mut self, i: usize) -> Result<Entry, StoreFault> {
-        if i >= self.count() {
-            return Err(StoreFault::NoEntry { position: i });
+        match StoreFault::of_access(self.count(), i) {
+            Some(fault) => Err(fault),
+            None => Ok(self.entry(i)),
         }
-        Ok(entry_of(half_of(self.bytes[i / 2], i)))
     }
 }
 
 pub impl<'a> WritableStore for HalfStore<'a> as HalfStoreWritable {
     fn put(&mut self, i: usize, symbol: u8) -> Result<(), StoreFault> {
-        if i >= self.count() {
-            return Err(StoreFault::NoEntry { position: i });
+        match StoreFault::of_put(self.count(), self.alphabet(), i, symbol) {
+            Some(fault) => Err(fault),
+            None => {
+                self.write(i, Entry::Symbol(symbol));
+                Ok(())
+            }
         }
-        if symbol >= self.alphabet() {
-            return Err(StoreFault::NotASymbol { position: i });
-        }
-        self.bytes[i / 2] = with_half(self.bytes[i / 2], i, symbol);
-        Ok(())
     }
 
     fn wipe(&mut self, i: usize) -> Result<(), StoreFault> {
-        if i >= self.count() {
-            return Err(StoreFault::NoEntry { position: i });
+        match StoreFault::of_access(self.count(), i) {
+            Some(fault) => Err(fault),
+            None => {
+                self.write(i, Entry::Missing);
+                Ok(())
+            }
         }
-        self.bytes[i / 2] = with_half(self.bytes[i / 2], i, MISSING);
-        Ok(())
     }
 }

@@ -3,6 +3,7 @@ mod byte;
 mod entries;
 mod faults;
 mod half;
+mod lending;
 mod puts;
 mod stores;
 
@@ -23,6 +24,7 @@ pub use half::HalfStore;
 pub use half::HalfStoreDefault;
 pub use half::HalfStoreStore;
 pub use half::HalfStoreWritable;
+pub use lending::bytes_are_told;
 pub use puts::put_all;
 pub use stores::Store;
 pub use stores::WritableStore;

@@ -97,9 +97,9 @@ kept-passed rest m n m″ k k″ e f h = ap (λ x. rest x k″) e ∙ ap (rest n
 
 -- every entry of a layer is one below
 pub sound-passed : (m m′ : Meaning) (at : ℕ → ℕ) → m′ .alphabet ≡ m .alphabet → ((i : ℕ) → i < count-of m′ → entry-at m′ i ≡ entry-at m (at i)) → Sound m → Sound m′
-sound-passed m m′ at a same s i v e = elim (cases-lt i (count-of m′)) [
-    inl h ↦ omega (arith, s (at i) v (sym (same i h) ∙ e))
-  | inr h ↦ (let p = getD-past (m′ .entries) i Missing h in let z : _≡_ {A = ℕ} 0 1 = cc in absurd (omega arith)) ]
+sound-passed m m′ at a same s i = elim (cases-lt i (count-of m′)) [
+    inl h ↦ rw (a, same i h) (s (at i))
+  | inr h ↦ rw (getD-past (m′ .entries) i Missing h) tt ]
 
 -- symbols that stand in entries of a layer stand at their places below
 pub laid-passed : {R : Type 0} (view : Meaning → Meaning) (rest : Meaning → R) (place at : ℕ → ℕ) → ((x : Meaning) (j : ℕ) → j < count-of (view x) → Shows view rest x j (place j)) → (m : Meaning) (i : ℕ) (vs : List ℕ) → ((j : ℕ) → j < i + length vs → at j < count-of (view m)) → (view (laid (λ j. place (at j)) m i vs) ≡ laid at (view m) i vs) × (rest (laid (λ j. place (at j)) m i vs) ≡ rest m)

@@ -3,6 +3,7 @@ mod pair;
 mod pairs;
 mod stride;
 mod through;
+mod told;
 mod window;
 
 pub use pair::StrideFault;
@@ -17,6 +18,7 @@ pub use pairs::StrideFaultCoded;
 pub use stride::Stride;
 pub use stride::StrideStore;
 pub use stride::StrideWritable;
+pub use told::below_is_told;
 pub use window::Window;
 pub use window::WindowStore;
 pub use window::WindowWritable;

@@ -3,7 +3,7 @@ ghost use mathlib.Core.Path.{_≡_};
 ghost use Prim.Native.Nat.{ℕ, _*_, _%_};
 ghost use denote.Ref.{now};
 ghost use Rattle.layers.specs.Places.{place-in};
-ghost use Rattle.layers.specs.Strides.{StrideKept, StrideTold, stride-meaning, stride-kept};
+ghost use Rattle.layers.specs.Strides.{StrideKept, stride-meaning, stride-kept};
 use crate::pair::StridePair;
 use crate::through::put_at;
 use crate::through::read_at;
@@ -21,11 +21,9 @@ pub struct Stride<S> {
 }
 
 impl<S: Store> Stride<S> {
-    // What a stride means and what no call changes tell, then and later, what stands below.
     pub fn new(pair: StridePair, below: S) -> Stride<S>
         ensures below { λ r. ⌜ r .below ≡ below ⌝ }
         ensures pair { λ r. ⌜ r .pair ≡ pair ⌝ }
-        ensures told { λ _. ⌜ StrideTold (S·Store .Kept) ⌝ }
     {
         Stride { below, pair }
     }

@@ -1,9 +1,10 @@
 // A window on a store.
 ghost use mathlib.Core.Path.{_≡_};
-ghost use Prim.Native.Nat.{ℕ, _+_};
+ghost use Prim.Native.Nat.{ℕ, _+_, _-_, _^_, _<_, min};
 ghost use denote.Ref.{now};
+ghost use Rattle.cells.specs.Stores.{count-of};
 ghost use Rattle.layers.specs.Places.{place-in};
-ghost use Rattle.layers.specs.Windows.{WindowKept, WindowTold, window-meaning, window-kept};
+ghost use Rattle.layers.specs.Windows.{WindowKept, window-meaning, window-kept};
 use crate::through::put_at;
 use crate::through::read_at;
 use crate::through::wipe_at;
@@ -21,12 +22,11 @@ pub struct Window<S> {
 }
 
 impl<S: Store> Window<S> {
-    // Any numbers are a window. What it means and what no call changes tell, then and later, what stands below.
+    // Any numbers are a window.
     pub fn new(below: S, start: usize, len: usize) -> Window<S>
         ensures below { λ r. ⌜ r .below ≡ below ⌝ }
         ensures start { λ r. ⌜ r .start ≡ start ⌝ }
         ensures len { λ r. ⌜ r .len ≡ len ⌝ }
-        ensures told { λ _. ⌜ WindowTold (S·Store .Kept) ⌝ }
     {
         Window { below, start, len }
     }
@@ -43,14 +43,15 @@ impl<S: Store> Window<S> {
     fn place(&self, i: usize) -> Option<usize>
         ensures { λ r. ⌜ r ≡ place-in (window-meaning (S·Store .meaning (now (self .entry) .below)) (now (self .entry) .start) (now (self .entry) .len)) i (now (self .entry) .start + i) ⌝ }
     {
-        if i >= self.len {
-            return None;
-        }
-        if i >= self.below.count().saturating_sub(self.start) {
-            return None;
-        }
-        Some(self.start + i)
+        if i < self.count() { Some(self.start + i) } else { None }
     }
+}
+
+// How many of the entries below are shown.
+fn shown(below: usize, start: usize, len: usize) -> usize
+    ensures { λ r. ⌜ r ≡ min len (below - start) ⌝ }
+{
+    below.saturating_sub(start).min(len)
 }
 
 pub impl<S: Store> Store for Window<S> as WindowStore {
@@ -62,8 +63,11 @@ pub impl<S: Store> Store for Window<S> as WindowStore {
 
     ghost lent = { λ w. S·Store .lent (w .below) };
 
-    fn count(&self) -> usize {
-        self.below.count().saturating_sub(self.start).min(self.len)
+    fn count(&self) -> usize
+        ensures is { λ r. ⌜ r ≡ count-of (window-meaning (S·Store .meaning (now (self .entry) .below)) (now (self .entry) .start) (now (self .entry) .len)) ⌝ }
+        ensures room { λ r. ⌜ (0 < r → now (self .entry) .start + r < 2 ^ 64) ⌝ }
+    {
+        shown(self.below.count(), self.start, self.len)
     }
 
     fn alphabet(&self) -> u8 {

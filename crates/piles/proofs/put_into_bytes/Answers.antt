@@ -3,7 +3,8 @@ use native.Mathlib.Omega.{arith}
 use borrow.Author.Needs.{needs}
 use Rattle.cells.specs.Puts.{put-all-answer}
 use Rattle.cells.specs.ByteStores.{byte-meaning, byte-kept, byte-row}
-use Rattle.cells.proofs.Lending.{lender-told}
+use Rattle.cells.proofs.ByteCells.{bytes-told}
+use Rattle.cells.proofs.Lenders.{lender-told}
 use Rattle.piles.specs.Piles.{pile-meaning, piled}
 use Rattle.piles.proofs.put_into_bytes.Needs as need
 
@@ -17,6 +18,6 @@ returns c =
     let vs = c .args .symbols .now in
     record {
       answer = e .answer ∙ ap (λ bs. put-all-answer (pile-meaning (byte-meaning bs) start len (pair .n) (pair .step)) vs) s;
-      done = lender-told byte-meaning byte-kept byte-row (c .new-store .ensures .told) _ (c .put-through .last .store .bytes .now) _ _ (λ i. omega (arith, c .typed .bytes i)) (search needs)
+      done = lender-told byte-meaning byte-kept byte-row bytes-told _ (c .put-through .last .store .bytes .now) _ _ (λ i. omega (arith, c .typed .bytes i)) (search needs)
           (e .done ∙ ap (λ bs. piled (byte-meaning bs) start len (pair .n) (pair .step) vs) s) (e .kept ∙ ap byte-kept s);
     }

@@ -5,4 +5,4 @@ use Rattle.layers.proofs.window.WindowStore.count.Needs as need
 pub returns : need.returns
 returns g c =
     let w = c .args .self .now in
-    omega (arith, window-count (g .S·Store .meaning (w .below)) (w .start) (w .len))
+    record { is = omega (arith, window-count (g .S·Store .meaning (w .below)) (w .start) (w .len)); room = λ h. omega arith }
