@@ -1,7 +1,6 @@
 -- The cells of a row of bytes, one a byte.
 use mathlib.Core.Path.{_≡_, refl, sym, ap, _∙_}
 use mathlib.Core.List.{List, [], _∷_, _++_, map}
-use mathlib.Core.Bool.{cond}
 use mathlib.Core.Logic.{inl, inr}
 use Prim.Native.Nat.{ℕ, zero, suc, _<_, _≤_, min}
 use native.Mathlib.Omega.{arith}
@@ -12,7 +11,7 @@ use Rattle.std.proofs.shelf.Lists.{length-map, length-take, getD-map, getD-take
 use Rattle.cells.specs.declared.entries.Entry.{Entry}
 use Rattle.cells.specs.declared.entries.Entry.the-variants.{Symbol, Missing}
 use Rattle.cells.specs.Stores.{InAlphabet, Meaning, Sound, count-of, entry-at, with-entry}
-use Rattle.cells.specs.ByteStores.{byte-entry, byte-meaning, byte-kept, entry-byte, byte-row, AreBytes, BytesTold}
+use Rattle.cells.specs.ByteStores.{byte-entry, byte-meaning, byte-kept, entry-byte, AreBytes, BytesTold}
 
 pub byte-symbol : (b : ℕ) → b < 255 → byte-entry b ≡ Symbol b
 byte-symbol b h = cond-true (ltb b 255) _ _ (lt-ltb b 255 h)
@@ -53,8 +52,9 @@ byte-in b = elim (cases-lt b 255) [ inl h ↦ rw (byte-symbol b h) h | inr h ↦
 
 pub byte-sound : (bs : List ℕ) → Sound (byte-meaning bs)
 byte-sound bs i = elim (cases-lt i (count-of (byte-meaning bs))) [
-    inl h ↦ rw (byte-at bs i h) (byte-in (getD bs i 0))
-  | inr h ↦ rw (getD-past (byte-meaning bs .entries) i Missing h) tt ]
+  | inl h ↦ rw (byte-at bs i h) (byte-in (getD bs i 0))
+  | inr h ↦ rw (getD-past (byte-meaning bs .entries) i Missing h) tt
+]
 
 -- an entry stands in the byte that it was read from
 byte-back : (b : ℕ) → b < 256 → entry-byte (byte-entry b) ≡ b
@@ -66,8 +66,9 @@ bytes-back (b ∷ bs) h = let p = byte-back b (h 0) in let q = bytes-back bs (λ
 
 pub front-bytes : (n : ℕ) (bs : List ℕ) → AreBytes bs → AreBytes (take n bs)
 front-bytes n bs h i = elim (cases-lt i n) [
-    inl k ↦ rw (getD-take n bs i 0 k) (h i)
-  | inr k ↦ (let l = length-take n bs in rw (getD-past (take n bs) i 0 (omega arith)) (omega arith)) ]
+  | inl k ↦ rw (getD-take n bs i 0 k) (h i)
+  | inr k ↦ (let l = length-take n bs in rw (getD-past (take n bs) i 0 (omega arith)) (omega arith))
+]
 
 pub bytes-told : BytesTold
 bytes-told bs h = sym (ap (λ f. f ++ drop 65536 bs) (bytes-back (take 65536 bs) (front-bytes 65536 bs h)) ∙ take-append-drop 65536 bs)

@@ -78,10 +78,12 @@ unless-err None a e p = let z : _≡_ {A = ℕ} 0 1 = cc in absurd (omega arith)
 -- a put that is not refused
 put-apart : (n a i v : ℕ) → put-fault n a i v ≡ None → (i < n) × (v < a)
 put-apart n a i v p = elim (cases-lt i n) [
-    inl h ↦ elim (cases-lt v a) [
-        inl k ↦ (h, k)
-      | inr k ↦ (let q = put-above n a i v h k in let z : _≡_ {A = ℕ} 0 1 = cc in absurd (omega arith)) ]
-  | inr h ↦ (let q = put-past n a i v h in let z : _≡_ {A = ℕ} 0 1 = cc in absurd (omega arith)) ]
+  | inl h ↦ elim (cases-lt v a) [
+    | inl k ↦ (h, k)
+    | inr k ↦ (let q = put-above n a i v h k in let z : _≡_ {A = ℕ} 0 1 = cc in absurd (omega arith))
+  ]
+  | inr h ↦ (let q = put-past n a i v h in let z : _≡_ {A = ℕ} 0 1 = cc in absurd (omega arith))
+]
 
 module _ (m : Meaning) (i v : ℕ) (r : Result (Unit {0}) StoreFault) (a : r ≡ put-answer m i v) where
   pub put-ok : (u : Unit {0}) → r ≡ Ok u → (i < count-of m) × (v < m .alphabet) × (put-in m i v ≡ with-entry m i (Symbol v))

@@ -12,7 +12,7 @@ use Rattle.cells.specs.declared.entries.Entry.{Entry}
 use Rattle.cells.specs.declared.entries.Entry.the-variants.{Symbol, Missing}
 use Rattle.cells.specs.Stores.{InAlphabet, Meaning, Sound, count-of, entry-at, with-entry}
 use Rattle.cells.specs.ByteStores.{AreBytes}
-use Rattle.cells.specs.HalfStores.{half-entry, half-entries, half-meaning, half-kept, half-of, with-half, entry-half, half-bytes, half-row, HalvesTold}
+use Rattle.cells.specs.HalfStores.{half-entry, half-entries, half-meaning, half-kept, half-of, with-half, entry-half, half-bytes, HalvesTold}
 use Rattle.cells.proofs.ByteCells.{take-set-in, front-bytes}
 
 pub half-symbol : (h : ℕ) → h < 15 → half-entry h ≡ Symbol h
@@ -79,8 +79,9 @@ half-in h = elim (cases-lt h 15) [ inl l ↦ rw (half-symbol h l) l | inr l ↦ 
 
 pub half-sound : (bs : List ℕ) → Sound (half-meaning bs)
 half-sound bs i = elim (cases-lt i (count-of (half-meaning bs))) [
-    inl h ↦ rw (half-at bs i h) (half-in (half-of (getD bs (i / 2) 0) (i % 2)))
-  | inr h ↦ rw (getD-past (half-meaning bs .entries) i Missing h) tt ]
+  | inl h ↦ rw (half-at bs i h) (half-in (half-of (getD bs (i / 2) 0) (i % 2)))
+  | inr h ↦ rw (getD-past (half-meaning bs .entries) i Missing h) tt
+]
 
 -- an entry stands in the half that it was read from
 half-back : (h : ℕ) → h < 16 → entry-half (half-entry h) ≡ h

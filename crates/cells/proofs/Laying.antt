@@ -9,7 +9,7 @@ use native.Mathlib.Omega.{arith}
 use lib.Dec.{ltb}
 use lib.ListN.{length, getD, take}
 use Rattle.std.proofs.shelf.Tests.{lt-ltb, le-ltb, cond-true, cond-false, cases-lt}
-use Rattle.std.proofs.shelf.Lists.{length-set, length-take-le, take-all, take-more}
+use Rattle.std.proofs.shelf.Lists.{length-set, length-take-le, take-more}
 use Rattle.std.specs.declared.option.Option.{Option}
 use Rattle.std.specs.declared.option.Option.the-variants.{Some, None}
 use Rattle.std.specs.declared.result.Result.the-variants.{Ok, Err}
@@ -54,23 +54,27 @@ lead-more : (a : ℕ) (vs : List ℕ) (i : ℕ) → i ≤ leading a vs → i < l
 lead-more a [] i h l k = absurd (omega arith)
 lead-more a (v ∷ vs) zero h l k = omega (arith, lead-yes a v vs k)
 lead-more a (v ∷ vs) (suc i) h l k = elim (cases-lt v a) [
-    inl y ↦ (let e = lead-yes a v vs y in omega (arith, lead-more a vs i (omega arith) (omega arith) k))
-  | inr n ↦ absurd (omega (arith, lead-no a v vs n)) ]
+  | inl y ↦ (let e = lead-yes a v vs y in omega (arith, lead-more a vs i (omega arith) (omega arith) k))
+  | inr n ↦ absurd (omega (arith, lead-no a v vs n))
+]
 
 lead-stop : (a : ℕ) (vs : List ℕ) (i : ℕ) → i ≤ leading a vs → i < length vs → a ≤ getD vs i 0 → leading a vs ≡ i
 lead-stop a [] i h l k = absurd (omega arith)
 lead-stop a (v ∷ vs) zero h l k = lead-no a v vs k
 lead-stop a (v ∷ vs) (suc i) h l k = elim (cases-lt v a) [
-    inl y ↦ (let e = lead-yes a v vs y in e ∙ ap suc (lead-stop a vs i (omega arith) (omega arith) k))
-  | inr n ↦ absurd (omega (arith, lead-no a v vs n)) ]
+  | inl y ↦ (let e = lead-yes a v vs y in e ∙ ap suc (lead-stop a vs i (omega arith) (omega arith) k))
+  | inr n ↦ absurd (omega (arith, lead-no a v vs n))
+]
 
 -- the first that is refused
 accepted-stop : (m : Meaning) (vs : List ℕ) (i : ℕ) (e : StoreFault) → i ≤ accepted m vs → i < length vs → put-fault (count-of m) (m .alphabet) i (getD vs i 0) ≡ Some e → accepted m vs ≡ i
 accepted-stop m vs i e le l f = elim (cases-lt i (count-of m)) [
-    inl h ↦ elim (cases-lt (getD vs i 0) (m .alphabet)) [
-        inl k ↦ (let q = put-within (count-of m) (m .alphabet) i (getD vs i 0) h k in let z : _≡_ {A = ℕ} 0 1 = cc in absurd (omega arith))
-      | inr k ↦ omega (arith, lead-stop (m .alphabet) vs i (omega arith) l k) ]
-  | inr h ↦ omega arith ]
+  | inl h ↦ elim (cases-lt (getD vs i 0) (m .alphabet)) [
+    | inl k ↦ (let q = put-within (count-of m) (m .alphabet) i (getD vs i 0) h k in let z : _≡_ {A = ℕ} 0 1 = cc in absurd (omega arith))
+    | inr k ↦ omega (arith, lead-stop (m .alphabet) vs i (omega arith) l k)
+  ]
+  | inr h ↦ omega arith
+]
 
 -- m is what the store meant at first, and n what it means when those before i are put
 module _ (m n : Meaning) (vs : List ℕ) (i : ℕ) (le : i ≤ accepted m vs) (so-far : n ≡ laid (λ k. k) m 0 (take i vs)) where

@@ -3,7 +3,7 @@ ghost use mathlib.Core.Path.{_≡_};
 ghost use mathlib.Core.List.{List, [], _∷_};
 ghost use Prim.Native.Nat.{ℕ, _<_, min};
 ghost use denote.Ref.{now, name};
-ghost use Rattle.cells.specs.Stores.{InAlphabet, Meaning, count-of, entry-at, with-entry};
+ghost use Rattle.cells.specs.Stores.{InAlphabet, count-of, entry-at, with-entry};
 ghost use Rattle.cells.specs.ByteStores.{byte-entry, byte-meaning, byte-kept, entry-byte};
 use crate::entries::Entry;
 use crate::faults::StoreFault;
@@ -58,7 +58,11 @@ impl<'a> ByteStore<'a> {
 fn entry_of(byte: u8) -> Entry
     ensures { λ r. ⌜ r ≡ byte-entry byte ⌝ }
 {
-    if byte == MISSING { Entry::Missing } else { Entry::Symbol(byte) }
+    if byte == MISSING {
+        Entry::Missing
+    } else {
+        Entry::Symbol(byte)
+    }
 }
 
 // The byte in which an entry stands.

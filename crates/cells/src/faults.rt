@@ -21,7 +21,11 @@ impl StoreFault {
         ensures is { λ r. ⌜ r ≡ access-fault count i ⌝ }
         ensures within { λ r. ⌜ elim r [ Some f ↦ Unit {0} | None ↦ i < count ] ⌝ }
     {
-        if i < count { None } else { Some(StoreFault::NoEntry { position: i }) }
+        if i < count {
+            None
+        } else {
+            Some(StoreFault::NoEntry { position: i })
+        }
     }
 
     // Why a put of `symbol` into entry `i` is refused in a store of `count` entries over `alphabet`.
@@ -32,7 +36,11 @@ impl StoreFault {
         if i >= count {
             return Some(StoreFault::NoEntry { position: i });
         }
-        if symbol < alphabet { None } else { Some(StoreFault::NotASymbol { position: i }) }
+        if symbol < alphabet {
+            None
+        } else {
+            Some(StoreFault::NotASymbol { position: i })
+        }
     }
 
     // The same refusal, told of another entry: a layer speaks of its own entries.
@@ -51,8 +59,16 @@ pub impl Fault for StoreFault as StoreFaultCoded {
 
     fn code(&self) -> FaultCode {
         match *self {
-            StoreFault::NoEntry { position } => FaultCode { part: Part::Store, number: 10, position },
-            StoreFault::NotASymbol { position } => FaultCode { part: Part::Store, number: 11, position },
+            StoreFault::NoEntry { position } => FaultCode {
+                part: Part::Store,
+                number: 10,
+                position,
+            },
+            StoreFault::NotASymbol { position } => FaultCode {
+                part: Part::Store,
+                number: 11,
+                position,
+            },
         }
     }
 }

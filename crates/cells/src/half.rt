@@ -3,7 +3,7 @@ ghost use mathlib.Core.Path.{_≡_};
 ghost use mathlib.Core.List.{List, [], _∷_};
 ghost use Prim.Native.Nat.{ℕ, _*_, _%_, _<_, min};
 ghost use denote.Ref.{now, name};
-ghost use Rattle.cells.specs.Stores.{InAlphabet, Meaning, count-of, entry-at, with-entry};
+ghost use Rattle.cells.specs.Stores.{InAlphabet, count-of, entry-at, with-entry};
 ghost use Rattle.cells.specs.HalfStores.{half-entry, half-meaning, half-kept, half-of, with-half, entry-half};
 use crate::entries::Entry;
 use crate::faults::StoreFault;
@@ -60,7 +60,11 @@ fn entry_of(half: u8) -> Entry
     requires { ⌜ half < 16 ⌝ }
     ensures { λ r. ⌜ r ≡ half-entry half ⌝ }
 {
-    if half == MISSING { Entry::Missing } else { Entry::Symbol(half) }
+    if half == MISSING {
+        Entry::Missing
+    } else {
+        Entry::Symbol(half)
+    }
 }
 
 // The half in which an entry stands.
@@ -85,7 +89,11 @@ fn with_half(byte: u8, i: usize, half: u8) -> u8
     requires { ⌜ half < 16 ⌝ }
     ensures { λ r. ⌜ r ≡ with-half byte (i % 2) half ⌝ }
 {
-    if i % 2 == 0 { byte / 16 * 16 + half } else { half * 16 + byte % 16 }
+    if i % 2 == 0 {
+        byte / 16 * 16 + half
+    } else {
+        half * 16 + byte % 16
+    }
 }
 
 fn cells_of(bytes: usize) -> usize

@@ -6,5 +6,4 @@ ghost use Rattle.cells.specs.HalfStores.{HalvesTold};
 pub fn bytes_are_told()
     ensures bytes { λ _. ⌜ BytesTold ⌝ }
     ensures halves { λ _. ⌜ HalvesTold ⌝ }
-{
-}
+{}

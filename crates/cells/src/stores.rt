@@ -19,13 +19,13 @@ pub trait Store {
     // The ghost names of the references that the store has borrowed: whoever lent them learns by the names what stands behind them in the end.
     ghost lent: { Self → List ℕ };
 
+    // How many entries there are. Every symbol in them is below the alphabet.
     fn count(&self) -> usize
-        ensures { λ r. ⌜ r ≡ count-of (meaning (now (self .entry))) ⌝ };
-
-    // Symbols are the numbers below it, and every symbol in an entry is one.
-    fn alphabet(&self) -> u8
-        ensures is { λ r. ⌜ r ≡ meaning (now (self .entry)) .alphabet ⌝ }
+        ensures is { λ r. ⌜ r ≡ count-of (meaning (now (self .entry))) ⌝ }
         ensures sound { λ _. ⌜ Sound (meaning (now (self .entry))) ⌝ };
+
+    fn alphabet(&self) -> u8
+        ensures { λ r. ⌜ r ≡ meaning (now (self .entry)) .alphabet ⌝ };
 
     // Tells entry `i`. It takes `&mut self` since some chips move a register while they are read.
     fn read(&mut self, i: usize) -> Result<Entry, StoreFault>

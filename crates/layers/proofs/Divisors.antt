@@ -1,5 +1,5 @@
 -- Divisors that two numbers share, and multiples of one modulo the other.
-use mathlib.Core.Path.{_≡_, refl, sym, ap, _∙_}
+use mathlib.Core.Path.{_≡_, sym, ap, _∙_}
 use mathlib.Core.Logic.{inl, inr}
 use Prim.Native.Nat.{ℕ, zero, suc, _+_, _-_, _*_, _/_, _%_, _<_, _≤_}
 use native.Mathlib.Nat.{dvd-of-mod-eq-zero, mod-mod-of-dvd, mod-eq-of-lt, mod-lt, mod-self, zero-mod, add-mod, div-add-mod, add-mul-mod-self-left, add-comm, mul-comm, mul-assoc, mul-left-comm, mul-add, add-mul, mul-one, one-mul, mul-zero}
@@ -16,9 +16,10 @@ abbrev pub Same : ℕ → ℕ → ℕ → ℕ → Type 0
 Same x y a b = ((d : ℕ) → Shared x y d → Shared a b d) × ((d : ℕ) → Shared a b d → Shared x y d)
 
 pub same-more : (x y a b : ℕ) → Same x y a b → Same y (x % y) a b
-same-more x y a b h =
-    (λ d s. h .0 d (sym (mod-mod-of-dvd d x (dvd-of-mod-eq-zero d (s .0))) ∙ s .1, s .0),
-     λ d s. let t = h .1 d s in (t .1, mod-mod-of-dvd d x (dvd-of-mod-eq-zero d (t .1)) ∙ t .0))
+same-more x y a b h = (
+  λ d s. h .0 d (sym (mod-mod-of-dvd d x (dvd-of-mod-eq-zero d (s .0))) ∙ s .1, s .0),
+  λ d s. let t = h .1 d s in (t .1, mod-mod-of-dvd d x (dvd-of-mod-eq-zero d (t .1)) ∙ t .0),
+)
 
 -- at the end y is 0, and x is 1 exactly if the two share no divisor above 1
 
@@ -30,10 +31,12 @@ apart-from-one x y a b h e d l p q =
 
 pub one-from-apart : (x y a b : ℕ) → y ≡ 0 → Same x y a b → Apart a b → x ≡ 1
 one-from-apart x y a b z h s = elim (cases-order x 1) [
-    inl e ↦ e
+  | inl e ↦ e
   | inr o ↦ elim o [
-      inl l ↦ (let n : x ≡ 0 = omega arith in let t = h .0 2 (ap (λ k. k % 2) n, ap (λ k. k % 2) z) in absurd (s 2 (omega arith) (t .0) (t .1)))
-    | inr l ↦ (let t = h .0 x (mod-self x, ap (λ k. k % x) z ∙ zero-mod x) in absurd (s x l (t .0) (t .1))) ] ]
+    | inl l ↦ (let n : x ≡ 0 = omega arith in let t = h .0 2 (ap (λ k. k % 2) n, ap (λ k. k % 2) z) in absurd (s 2 (omega arith) (t .0) (t .1)))
+    | inr l ↦ (let t = h .0 x (mod-self x, ap (λ k. k % x) z ∙ zero-mod x) in absurd (s x l (t .0) (t .1)))
+  ]
+]
 
 -- a number that shares no divisor with n has an inverse modulo n
 
@@ -53,16 +56,16 @@ only-one s n l h q = elim (cases-lt 1 s) [ inl k ↦ absurd (h s k (mod-self s) 
 inverse-within : (f s n : ℕ) → s + n ≤ f → 0 < s → Apart s n → Inverse s n
 inverse-within zero s n le l h = absurd (omega arith)
 inverse-within (suc f) s n le l h = elim (cases-order s n) [
-    inl e ↦ (let o = only-one s n l h (ap (λ k. k % s) (sym e) ∙ mod-self s) in record { by = 1; over = 0; one = omega (arith, mul-one s, mul-zero n) })
+  | inl e ↦ (let o = only-one s n l h (ap (λ k. k % s) (sym e) ∙ mod-self s) in record { by = 1; over = 0; one = omega (arith, mul-one s, mul-zero n) })
   | inr o ↦ elim o [
-      inl k ↦ (
+    | inl k ↦ (
         let g : n - s + s ≡ n = omega arith in
         let i = inverse-within f s (n - s) (omega arith) l (λ d t p q. h d t p (ap (λ x. x % d) (sym g) ∙ divides-add d (n - s) s q p)) in
         let a = i .by in
         let b = i .over in
         record { by = a + b; over = b; one = omega (arith, i .one, mul-add s a b, add-mul (n - s) s b, ap (λ x. x * b) g) })
     | inr k ↦ elim (cases-lt 0 n) [
-        inl z ↦ (
+      | inl z ↦ (
           let g : s - n + n ≡ s = omega arith in
           let i = inverse-within f (s - n) n (omega arith) (omega arith) (λ d t p q. h d t (ap (λ x. x % d) (sym g) ∙ divides-add d (s - n) n p q) q) in
           let a = i .by in
@@ -71,7 +74,10 @@ inverse-within (suc f) s n le l h = elim (cases-order s n) [
       | inr z ↦ (
           let e : n ≡ 0 = omega arith in
           let o = only-one s n l h (ap (λ k. k % s) e ∙ zero-mod s) in
-          record { by = 1; over = 0; one = omega (arith, mul-one s, mul-zero n) }) ] ] ]
+          record { by = 1; over = 0; one = omega (arith, mul-one s, mul-zero n) })
+    ]
+  ]
+]
 
 inverse : (s n : ℕ) → 0 < s → Apart s n → Inverse s n
 inverse s n l h = inverse-within (s + n) s n (omega arith) l h
@@ -79,7 +85,7 @@ inverse s n l h = inverse-within (s + n) s n (omega arith) l h
 mod-within : (x y n : ℕ) → (x * (y % n)) % n ≡ (x * y) % n
 mod-within x y n =
     let e : x * y ≡ x * (y % n) + n * (x * (y / n)) =
-            ap (λ k. x * k) (sym (div-add-mod y n)) ∙ mul-add x (n * (y / n)) (y % n) ∙ add-comm (x * (n * (y / n))) (x * (y % n)) ∙ ap (λ k. x * (y % n) + k) (mul-left-comm x n (y / n)) in
+    ap (λ k. x * k) (sym (div-add-mod y n)) ∙ mul-add x (n * (y / n)) (y % n) ∙ add-comm (x * (n * (y / n))) (x * (y % n)) ∙ ap (λ k. x * (y % n) + k) (mul-left-comm x n (y / n)) in
     sym (ap (λ k. k % n) e ∙ add-mul-mod-self-left (x * (y % n)) n (x * (y / n)))
 
 undone : (x y n b i : ℕ) → x * y ≡ n * b + 1 → i < n → (x * ((y * i) % n)) % n ≡ i

@@ -1,14 +1,13 @@
 -- What a stride shows, and what stays.
 use mathlib.Core.Path.{_≡_, refl, sym, ap, _∙_}
 use mathlib.Core.Logic.{inl, inr}
-use mathlib.Core.List.{List, [], _++_, map}
+use mathlib.Core.List.{List, [], _++_}
 use mathlib.Core.Bool.{cond}
 use Prim.Native.Nat.{ℕ, _+_, _*_, _%_, _<_, _≤_}
 use native.Mathlib.Nat.{mod-lt}
 use native.Mathlib.Omega.{arith}
 use lib.Dec.{leb}
 use lib.ListN.{length, getD, set, take, drop}
-use Rattle.std.specs.Iters.{counting}
 use Rattle.std.proofs.shelf.Lists.{length-set, length-take, getD-set-same, getD-set-other, getD-take, drop-set-lt, ext-getD, take-append-drop}
 use Rattle.std.proofs.shelf.Counted.{length-map-counting, getD-map-counting}
 use Rattle.std.proofs.shelf.Tests.{le-leb, lt-leb, cond-true, cond-false, cases-lt, cases-eq}
@@ -39,11 +38,18 @@ stride-count m n s h = ap length (shown m n s h .0) ∙ strided-count m n s
 pub stride-none : (m : Meaning) (n s : ℕ) → count-of m < n → count-of (stride-meaning m n s) ≡ 0
 stride-none m n s h = ap length (none-shown m n s h .0)
 
+pub stride-counted : (m : Meaning) (n s : ℕ) → count-of (stride-meaning m n s) ≡ cond (leb n (count-of m)) n 0
+stride-counted m n s = elim (cases-lt (count-of m) n) [
+  | inl h ↦ stride-none m n s h ∙ sym (cond-false (leb n (count-of m)) _ _ (lt-leb n (count-of m) h))
+  | inr h ↦ stride-count m n s h ∙ sym (cond-true (leb n (count-of m)) _ _ (le-leb n (count-of m) h))
+]
+
 -- an entry that a stride has
 pub stride-has : (m : Meaning) (n s i : ℕ) → i < count-of (stride-meaning m n s) → (n ≤ count-of m) × (i < n)
 stride-has m n s i h = elim (cases-lt (count-of m) n) [
-    inl k ↦ absurd (omega (arith, stride-none m n s k))
-  | inr k ↦ (k, omega (arith, stride-count m n s k)) ]
+  | inl k ↦ absurd (omega (arith, stride-none m n s k))
+  | inr k ↦ (k, omega (arith, stride-count m n s k))
+]
 
 stride-at : (m : Meaning) (n s i : ℕ) → i < count-of (stride-meaning m n s) → entry-at (stride-meaning m n s) i ≡ entry-at m ((s * i) % n)
 stride-at m n s i h = let p = stride-has m n s i h in ap (λ es. getD es i Missing) (shown m n s (p .0) .0) ∙ strided-at m n s i (p .1)
@@ -59,13 +65,14 @@ strided-set m n s i e z a h l =
     let c2 = strided-count m n s in
     let c3 = length-set (strided m n s) i e in
     ext-getD Missing (strided m1 n s) (set (strided m n s) i e) (omega arith) (λ k g.
-        let kn : k < n = omega arith in
-        let il : i < length (strided m n s) = omega arith in
-        let an : at < n = mod-lt (s * i) (omega arith) in
-        let al : at < count-of m = omega arith in
-        strided-at m1 n s k kn ∙ elim (cases-eq k i) [
-            inl q ↦ (ap (λ x. entry-at m1 ((s * x) % n)) q ∙ getD-set-same (m .entries) at e Missing al ∙ sym (getD-set-same (strided m n s) i e Missing il) ∙ ap (λ x. getD (set (strided m n s) i e) x Missing) (sym q))
-          | inr q ↦ (getD-set-other (m .entries) at ((s * k) % n) e Missing (λ t. q (multiples-apart s n k i z a kn l t)) ∙ sym (strided-at m n s k kn) ∙ sym (getD-set-other (strided m n s) i k e Missing q)) ])
+    let kn : k < n = omega arith in
+    let il : i < length (strided m n s) = omega arith in
+    let an : at < n = mod-lt (s * i) (omega arith) in
+    let al : at < count-of m = omega arith in
+    strided-at m1 n s k kn ∙ elim (cases-eq k i) [
+      | inl q ↦ (ap (λ x. entry-at m1 ((s * x) % n)) q ∙ getD-set-same (m .entries) at e Missing al ∙ sym (getD-set-same (strided m n s) i e Missing il) ∙ ap (λ x. getD (set (strided m n s) i e) x Missing) (sym q))
+      | inr q ↦ (getD-set-other (m .entries) at ((s * k) % n) e Missing (λ t. q (multiples-apart s n k i z a kn l t)) ∙ sym (strided-at m n s k kn) ∙ sym (getD-set-other (strided m n s) i k e Missing q))
+    ])
 
 pub stride-shows : {K : Type 0} (m : Meaning) (k : K) (n s i : ℕ) → 0 < s → Apart s n → i < count-of (stride-meaning m n s) → Shows (λ x. stride-meaning x n s) (λ x. stride-kept x k n s) m i ((s * i) % n)
 stride-shows {K} m k n s i z a h =
@@ -89,22 +96,25 @@ front-told m m′ n s z a h h′ e =
     let l1 = length-take n (m .entries) in
     let l2 = length-take n (m′ .entries) in
     ext-getD Missing (take n (m .entries)) (take n (m′ .entries)) (omega arith) (λ j g.
-        let jn : j < n = omega arith in
-        let r = multiple-reached s n j z a jn in
-        let back : (x : Meaning) → getD (strided x n s) (r .0) Missing ≡ entry-at x j = λ x. strided-at x n s (r .0) (r .1) ∙ ap (entry-at x) (r .2) in
-        getD-take n (m .entries) j Missing jn ∙ sym (back m) ∙ ap (λ es. getD es (r .0) Missing) e ∙ back m′ ∙ sym (getD-take n (m′ .entries) j Missing jn))
+    let jn : j < n = omega arith in
+    let r = multiple-reached s n j z a jn in
+    let back : (x : Meaning) → getD (strided x n s) (r .0) Missing ≡ entry-at x j = λ x. strided-at x n s (r .0) (r .1) ∙ ap (entry-at x) (r .2) in
+    getD-take n (m .entries) j Missing jn ∙ sym (back m) ∙ ap (λ es. getD es (r .0) Missing) e ∙ back m′ ∙ sym (getD-take n (m′ .entries) j Missing jn))
 
 entries-told : (m m′ : Meaning) (n s : ℕ) → MakesStride n s → stride-meaning m n s .entries ≡ stride-meaning m′ n s .entries → unshown m n ≡ unshown m′ n → m .entries ≡ m′ .entries
 entries-told m m′ n s (z, sn, most, a) e f = elim (cases-lt (count-of m) n) [
-    inl k ↦ elim (cases-lt (count-of m′) n) [
-        inl k′ ↦ sym (none-shown m n s k .1) ∙ f ∙ none-shown m′ n s k′ .1
-      | inr k′ ↦ absurd (omega (arith, stride-none m n s k, stride-count m′ n s k′, ap length e)) ]
+  | inl k ↦ elim (cases-lt (count-of m′) n) [
+    | inl k′ ↦ sym (none-shown m n s k .1) ∙ f ∙ none-shown m′ n s k′ .1
+    | inr k′ ↦ absurd (omega (arith, stride-none m n s k, stride-count m′ n s k′, ap length e))
+  ]
   | inr k ↦ elim (cases-lt (count-of m′) n) [
-        inl k′ ↦ absurd (omega (arith, stride-count m n s k, stride-none m′ n s k′, ap length e))
-      | inr k′ ↦ (
-          let front = front-told m m′ n s z a k k′ (sym (shown m n s k .0) ∙ e ∙ shown m′ n s k′ .0) in
-          let end = sym (shown m n s k .1) ∙ f ∙ shown m′ n s k′ .1 in
-          sym (take-append-drop n (m .entries)) ∙ ap (λ x. x ++ drop n (m .entries)) front ∙ ap (λ x. take n (m′ .entries) ++ x) end ∙ take-append-drop n (m′ .entries)) ] ]
+    | inl k′ ↦ absurd (omega (arith, stride-count m n s k, stride-none m′ n s k′, ap length e))
+    | inr k′ ↦ (
+        let front = front-told m m′ n s z a k k′ (sym (shown m n s k .0) ∙ e ∙ shown m′ n s k′ .0) in
+        let end = sym (shown m n s k .1) ∙ f ∙ shown m′ n s k′ .1 in
+        sym (take-append-drop n (m .entries)) ∙ ap (λ x. x ++ drop n (m .entries)) front ∙ ap (λ x. take n (m′ .entries) ++ x) end ∙ take-append-drop n (m′ .entries))
+  ]
+]
 
 pub stride-told : {K : Type 0} → StrideTold K
 stride-told {K} m m′ k k′ n s ok p q =

@@ -1,9 +1,9 @@
 -- What a window shows, and what stays.
 use mathlib.Core.Path.{_≡_, refl, sym, ap, _∙_}
 use mathlib.Core.List.{List, _++_}
-use Prim.Native.Nat.{ℕ, _+_, _-_, _<_, _≤_, min}
+use Prim.Native.Nat.{ℕ, _+_, _-_, _<_, min}
 use native.Mathlib.Omega.{arith}
-use lib.ListN.{length, getD, set, take, drop}
+use lib.ListN.{take, drop}
 use Rattle.std.proofs.shelf.Lists.{length-take, length-drop, getD-take, getD-drop, take-set-le, drop-set-lt, drop-set-add, take-append-drop, drop-drop}
 use Rattle.cells.specs.declared.entries.Entry.{Entry}
 use Rattle.cells.specs.declared.entries.Entry.the-variants.{Missing}
@@ -53,9 +53,9 @@ window-parts es start len =
 pub window-told : {K : Type 0} → WindowTold K
 window-told {K} m n k l start len p q =
     let e : m .entries ≡ n .entries =
-            sym (window-parts (m .entries) start len)
-            ∙ ap (λ (x : WindowKept K). x .before ++ (take len (drop start (m .entries)) ++ x .after)) q
-            ∙ ap (λ (x : Meaning). take start (n .entries) ++ (x .entries ++ drop (start + len) (n .entries))) p
-            ∙ window-parts (n .entries) start len in
+    sym (window-parts (m .entries) start len)
+    ∙ ap (λ (x : WindowKept K). x .before ++ (take len (drop start (m .entries)) ++ x .after)) q
+    ∙ ap (λ (x : Meaning). take start (n .entries) ++ (x .entries ++ drop (start + len) (n .entries))) p
+    ∙ window-parts (n .entries) start len in
     let F : List Entry → ℕ → Meaning = λ es a. record { entries = es; alphabet = a } in
     (ap (λ es. F es (m .alphabet)) e ∙ ap (λ (x : Meaning). F (n .entries) (x .alphabet)) p, ap (λ (x : WindowKept K). x .below) q)

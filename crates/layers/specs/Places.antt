@@ -1,4 +1,5 @@
 -- A layer shows entries of the store below, each at a place there.
+use mathlib.Core.Path.{_≡_}
 use mathlib.Core.Bool.{cond}
 use Prim.Native.Nat.{ℕ}
 use lib.Dec.{ltb}
@@ -41,3 +42,13 @@ put-through m None i v = Err (NoEntry i)
 abbrev pub put-below : Meaning → Option ℕ → ℕ → Meaning
 put-below m (Some at) v = put-in m at v
 put-below m None v = m
+
+-- A call at a place p of the store below, which means m and keeps k, is a call of the layer at its entry i: `view` is what the layer means and `rest` what no call changes.
+pub record Passes {K R : Type 0} (view : Meaning → Meaning) (rest : Meaning → K → R) (m : Meaning) (k : K) (i : ℕ) (p : Option ℕ) : Type 0 where
+  pub read-answers : read-through m p i ≡ read-answer (view m) i
+  pub wipe-answers : wipe-through m p i ≡ wipe-answer (view m) i
+  pub wipe-leaves : view (wiped-through m p) ≡ wiped (view m) i
+  pub wipe-keeps : rest (wiped-through m p) k ≡ rest m k
+  pub put-answers : (v : ℕ) → put-through m p i v ≡ put-answer (view m) i v
+  pub put-leaves : (v : ℕ) → view (put-below m p v) ≡ put-in (view m) i v
+  pub put-keeps : (v : ℕ) → rest (put-below m p v) k ≡ rest m k

@@ -1,5 +1,4 @@
 // Making a pair of n and step.
-ghost use mathlib.Core.Path.{_≡_};
 ghost use Rattle.std.specs.Orderings.{Decides};
 ghost use Rattle.layers.specs.Divisors.{Apart};
 ghost use Rattle.layers.specs.PairAnswers.{PairAnswer, stride-fault-code};
@@ -41,7 +40,11 @@ pub impl Fault for StrideFault as StrideFaultCoded {
 
     fn code(&self) -> FaultCode {
         match *self {
-            StrideFault::NoStride => FaultCode { part: Part::Store, number: 12, position: 0 },
+            StrideFault::NoStride => FaultCode {
+                part: Part::Store,
+                number: 12,
+                position: 0,
+            },
         }
     }
 }

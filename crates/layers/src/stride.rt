@@ -1,8 +1,10 @@
 // A stride over a store.
 ghost use mathlib.Core.Path.{_≡_};
-ghost use Prim.Native.Nat.{ℕ, _*_, _%_};
+ghost use mathlib.Core.Bool.{cond};
+ghost use Prim.Native.Nat.{_*_, _%_};
+ghost use lib.Dec.{leb};
 ghost use denote.Ref.{now};
-ghost use Rattle.layers.specs.Places.{place-in};
+ghost use Rattle.layers.specs.Places.{Passes, place-in};
 ghost use Rattle.layers.specs.Strides.{StrideKept, stride-meaning, stride-kept};
 use crate::pair::StridePair;
 use crate::through::put_at;
@@ -36,12 +38,29 @@ impl<S: Store> Stride<S> {
         below
     }
 
-    // Where entry `i` lies below.
+    // Where entry `i` lies below: a call there is a call here.
     fn place(&self, i: usize) -> Option<usize>
+        ensures { λ r. ⌜ Passes (λ x. stride-meaning x (now (self .entry) .pair .n) (now (self .entry) .pair .step)) (λ x y. stride-kept x y (now (self .entry) .pair .n) (now (self .entry) .pair .step)) (S·Store .meaning (now (self .entry) .below)) (S·Store .kept (now (self .entry) .below)) i r ⌝ }
+    {
+        self.position(i)
+    }
+
+    fn position(&self, i: usize) -> Option<usize>
         ensures { λ r. ⌜ r ≡ place-in (stride-meaning (S·Store .meaning (now (self .entry) .below)) (now (self .entry) .pair .n) (now (self .entry) .pair .step)) i ((now (self .entry) .pair .step * i) % now (self .entry) .pair .n) ⌝ }
     {
-        if i < self.count() { Some(self.pair.step * i % self.pair.n) } else { None }
+        if i < self.count() {
+            Some(self.pair.step * i % self.pair.n)
+        } else {
+            None
+        }
     }
+}
+
+// How many of the entries below are shown.
+fn shown(below: usize, n: usize) -> usize
+    ensures { λ r. ⌜ r ≡ cond (leb n below) n 0 ⌝ }
+{
+    if below < n { 0 } else { n }
 }
 
 pub impl<S: Store> Store for Stride<S> as StrideStore {
@@ -54,7 +73,7 @@ pub impl<S: Store> Store for Stride<S> as StrideStore {
     ghost lent = { λ s. S·Store .lent (s .below) };
 
     fn count(&self) -> usize {
-        if self.below.count() < self.pair.n { 0 } else { self.pair.n }
+        shown(self.below.count(), self.pair.n)
     }
 
     fn alphabet(&self) -> u8 {

@@ -28,7 +28,12 @@ pub fn read_at<S: Store>(below: &mut S, place: Option<usize>, i: usize) -> Resul
     }
 }
 
-pub fn put_at<S: WritableStore>(below: &mut S, place: Option<usize>, i: usize, symbol: u8) -> Result<(), StoreFault>
+pub fn put_at<S: WritableStore>(
+    below: &mut S,
+    place: Option<usize>,
+    i: usize,
+    symbol: u8,
+) -> Result<(), StoreFault>
     ensures answer { λ r. ⌜ r ≡ put-through (S·Store .meaning (now (below .entry))) place i symbol ⌝ }
     ensures done { λ _. ⌜ S·Store .meaning (now (below .exit)) ≡ put-below (S·Store .meaning (now (below .entry))) place symbol ⌝ }
     ensures kept { λ _. ⌜ S·Store .kept (now (below .exit)) ≡ S·Store .kept (now (below .entry)) ⌝ }
@@ -40,7 +45,11 @@ pub fn put_at<S: WritableStore>(below: &mut S, place: Option<usize>, i: usize, s
     }
 }
 
-pub fn wipe_at<S: WritableStore>(below: &mut S, place: Option<usize>, i: usize) -> Result<(), StoreFault>
+pub fn wipe_at<S: WritableStore>(
+    below: &mut S,
+    place: Option<usize>,
+    i: usize,
+) -> Result<(), StoreFault>
     ensures answer { λ r. ⌜ r ≡ wipe-through (S·Store .meaning (now (below .entry))) place i ⌝ }
     ensures done { λ _. ⌜ S·Store .meaning (now (below .exit)) ≡ wiped-through (S·Store .meaning (now (below .entry))) place ⌝ }
     ensures kept { λ _. ⌜ S·Store .kept (now (below .exit)) ≡ S·Store .kept (now (below .entry)) ⌝ }

@@ -7,5 +7,4 @@ use cells::Store;
 pub fn below_is_told<S: Store>()
     ensures window { λ _. ⌜ WindowTold (S·Store .Kept) ⌝ }
     ensures stride { λ _. ⌜ StrideTold (S·Store .Kept) ⌝ }
-{
-}
+{}

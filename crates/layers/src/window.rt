@@ -1,9 +1,9 @@
 // A window on a store.
 ghost use mathlib.Core.Path.{_≡_};
-ghost use Prim.Native.Nat.{ℕ, _+_, _-_, _^_, _<_, min};
+ghost use Prim.Native.Nat.{_+_, _-_, _^_, _<_, min};
 ghost use denote.Ref.{now};
-ghost use Rattle.cells.specs.Stores.{count-of};
-ghost use Rattle.layers.specs.Places.{place-in};
+ghost use Rattle.cells.specs.Stores.{Sound, count-of};
+ghost use Rattle.layers.specs.Places.{Passes, place-in};
 ghost use Rattle.layers.specs.Windows.{WindowKept, window-meaning, window-kept};
 use crate::through::put_at;
 use crate::through::read_at;
@@ -35,15 +35,29 @@ impl<S: Store> Window<S> {
     pub fn into_below(self) -> S
         ensures { λ r. ⌜ r ≡ self .below ⌝ }
     {
-        let Window { below, start: _, len: _ } = self;
+        let Window {
+            below,
+            start: _,
+            len: _,
+        } = self;
         below
     }
 
-    // Where entry `i` lies below.
+    // Where entry `i` lies below: a call there is a call here.
     fn place(&self, i: usize) -> Option<usize>
+        ensures { λ r. ⌜ Passes (λ x. window-meaning x (now (self .entry) .start) (now (self .entry) .len)) (λ x y. window-kept x y (now (self .entry) .start) (now (self .entry) .len)) (S·Store .meaning (now (self .entry) .below)) (S·Store .kept (now (self .entry) .below)) i r ⌝ }
+    {
+        self.position(i)
+    }
+
+    fn position(&self, i: usize) -> Option<usize>
         ensures { λ r. ⌜ r ≡ place-in (window-meaning (S·Store .meaning (now (self .entry) .below)) (now (self .entry) .start) (now (self .entry) .len)) i (now (self .entry) .start + i) ⌝ }
     {
-        if i < self.count() { Some(self.start + i) } else { None }
+        if i < self.count() {
+            Some(self.start + i)
+        } else {
+            None
+        }
     }
 }
 
@@ -65,6 +79,7 @@ pub impl<S: Store> Store for Window<S> as WindowStore {
 
     fn count(&self) -> usize
         ensures is { λ r. ⌜ r ≡ count-of (window-meaning (S·Store .meaning (now (self .entry) .below)) (now (self .entry) .start) (now (self .entry) .len)) ⌝ }
+        ensures sound { λ _. ⌜ Sound (window-meaning (S·Store .meaning (now (self .entry) .below)) (now (self .entry) .start) (now (self .entry) .len)) ⌝ }
         ensures room { λ r. ⌜ (0 < r → now (self .entry) .start + r < 2 ^ 64) ⌝ }
     {
         shown(self.below.count(), self.start, self.len)

@@ -8,7 +8,6 @@ use lib.ListN.{length, take}
 use Rattle.std.proofs.shelf.Lists.{length-take}
 use Rattle.cells.specs.Stores.{Meaning, count-of}
 use Rattle.cells.specs.Puts.{accepted, laid, put-all-in}
-use Rattle.cells.specs.ByteStores.{AreBytes, BytesTold, byte-meaning, byte-kept, byte-row}
 use Rattle.layers.specs.Windows.{WindowKept, window-meaning, window-kept}
 use Rattle.layers.specs.Strides.{MakesStride, StrideKept, stride-meaning, stride-kept}
 use Rattle.layers.proofs.Views.{laid-passed}
@@ -23,13 +22,14 @@ module _ {K : Type 0} (m : Meaning) (k : K) (start len n step : ℕ) (ok : Makes
       let w = window-meaning m start len in
       let at : ℕ → ℕ = λ i. (step * i) % n in
       let within : (j : ℕ) → j < 0 + length vs → at j < count-of w = λ j l. (
-              let h = stride-has w n step j (omega arith) in
-              let b : at j < n = mod-lt (step * j) (omega (arith, h .1)) in
-              omega (arith, h .0)) in
+      let h = stride-has w n step j (omega arith) in
+      let b : at j < n = mod-lt (step * j) (omega (arith, h .1)) in
+      omega (arith, h .0)) in
       let a = laid-passed (λ x. window-meaning x start len) (λ x. window-kept x k start len) (λ j. start + j) at (λ x j. window-shows x k start len j) m 0 vs within in
-      let b = laid-passed (λ x. stride-meaning x n step) (λ x. stride-kept x (window-kept m k start len) n step) at (λ j. j) (λ x j. stride-shows x (window-kept m k start len) n step j (ok .0) (ok .3)) w 0 vs (λ j l. omega arith) in
-      (sym (b .0) ∙ ap (λ x. stride-meaning x n step) (sym (a .0)),
-       sym (b .1) ∙ ap (λ x. stride-kept x (window-kept m k start len) n step) (sym (a .0)) ∙ ap (λ x. stride-kept (window-meaning (laid (pile-place start n step) m 0 vs) start len) x n step) (sym (a .1)))
+      let b = laid-passed (λ x. stride-meaning x n step) (λ x. stride-kept x (window-kept m k start len) n step) at (λ j. j) (λ x j. stride-shows x (window-kept m k start len) n step j (ok .0) (ok .3)) w 0 vs (λ j l. omega arith) in (
+        sym (b .0) ∙ ap (λ x. stride-meaning x n step) (sym (a .0)),
+        sym (b .1) ∙ ap (λ x. stride-kept x (window-kept m k start len) n step) (sym (a .0)) ∙ ap (λ x. stride-kept (window-meaning (laid (pile-place start n step) m 0 vs) start len) x n step) (sym (a .1)),
+      )
 
 -- what a pile means and keeps is the same over the same store with the same numbers
 pub record SamePile {K : Type 0} (m m′ : Meaning) (k k′ : K) (start start′ len len′ n n′ step step′ : ℕ) : Type 0 where
@@ -53,7 +53,7 @@ pub pile-done : {K : Type 0} (m m″ : Meaning) (k k″ : K) (start len n step s
 pile-done {K} m m″ k k″ start len n step start″ len″ n″ step″ vs ok p q =
     let W = WindowKept K in
     let same = same-pile m″ m″ k″ k″ start start″ len len″ n n″ step step″ refl refl
-            (sym (ap (λ (x : StrideKept W). x .below .start) q)) (sym (ap (λ (x : StrideKept W). x .below .len) q)) (sym (ap (λ (x : StrideKept W). x .n) q)) (sym (ap (λ (x : StrideKept W). x .step) q)) in
+    (sym (ap (λ (x : StrideKept W). x .below .start) q)) (sym (ap (λ (x : StrideKept W). x .below .len) q)) (sym (ap (λ (x : StrideKept W). x .n) q)) (sym (ap (λ (x : StrideKept W). x .step) q)) in
     let some = take (accepted (pile-meaning m start len n step) vs) vs in
     let l = length-take (accepted (pile-meaning m start len n step) vs) vs in
     let m* = piled m start len n step vs in

@@ -2,10 +2,8 @@
 use mathlib.Core.List.{List}
 use Prim.Native.Nat.{ℕ, _+_, _*_, _%_}
 use lib.ListN.{take}
-use Rattle.std.specs.declared.result.Result.{Result}
-use Rattle.cells.specs.declared.faults.StoreFault.{StoreFault}
 use Rattle.cells.specs.Stores.{Meaning}
-use Rattle.cells.specs.Puts.{accepted, laid, put-all-answer}
+use Rattle.cells.specs.Puts.{accepted, laid}
 use Rattle.layers.specs.Windows.{window-meaning}
 use Rattle.layers.specs.Strides.{stride-meaning}
 

@@ -25,7 +25,13 @@ use layers::WindowStore;
 use layers::WindowWritable;
 
 // Puts `symbols` into the entries of the pile from 0 on, up to the first that is refused.
-pub fn put_through<S: WritableStore + Default + Drop>(store: &mut S, start: usize, len: usize, pair: StridePair, symbols: &[u8]) -> Result<(), StoreFault>
+pub fn put_through<S: WritableStore + Default + Drop>(
+    store: &mut S,
+    start: usize,
+    len: usize,
+    pair: StridePair,
+    symbols: &[u8],
+) -> Result<(), StoreFault>
     ensures answer { λ r. ⌜ r ≡ put-all-answer (pile-meaning (S·Store .meaning (now (store .entry))) start len (pair .n) (pair .step)) (now (symbols .entry)) ⌝ }
     ensures done { λ _. ⌜ S·Store .meaning (now (store .exit)) ≡ piled (S·Store .meaning (now (store .entry))) start len (pair .n) (pair .step) (now (symbols .entry)) ⌝ }
     ensures kept { λ _. ⌜ S·Store .kept (now (store .exit)) ≡ S·Store .kept (now (store .entry)) ⌝ }
@@ -39,7 +45,13 @@ pub fn put_through<S: WritableStore + Default + Drop>(store: &mut S, start: usiz
 }
 
 // The same over the byte store of `bytes`.
-pub fn put_into_bytes(bytes: &mut [u8], start: usize, len: usize, pair: StridePair, symbols: &[u8]) -> Result<(), StoreFault>
+pub fn put_into_bytes(
+    bytes: &mut [u8],
+    start: usize,
+    len: usize,
+    pair: StridePair,
+    symbols: &[u8],
+) -> Result<(), StoreFault>
     ensures answer { λ r. ⌜ r ≡ put-all-answer (pile-meaning (byte-meaning (now (bytes .entry))) start len (pair .n) (pair .step)) (now (symbols .entry)) ⌝ }
     ensures done { λ _. ⌜ now (bytes .exit) ≡ byte-row (piled (byte-meaning (now (bytes .entry))) start len (pair .n) (pair .step) (now (symbols .entry))) (byte-kept (now (bytes .entry))) ⌝ }
 {
@@ -48,7 +60,13 @@ pub fn put_into_bytes(bytes: &mut [u8], start: usize, len: usize, pair: StridePa
 }
 
 // The same over the half store of `bytes`.
-pub fn put_into_halves(bytes: &mut [u8], start: usize, len: usize, pair: StridePair, symbols: &[u8]) -> Result<(), StoreFault>
+pub fn put_into_halves(
+    bytes: &mut [u8],
+    start: usize,
+    len: usize,
+    pair: StridePair,
+    symbols: &[u8],
+) -> Result<(), StoreFault>
     ensures answer { λ r. ⌜ r ≡ put-all-answer (pile-meaning (half-meaning (now (bytes .entry))) start len (pair .n) (pair .step)) (now (symbols .entry)) ⌝ }
     ensures done { λ _. ⌜ now (bytes .exit) ≡ half-row (piled (half-meaning (now (bytes .entry))) start len (pair .n) (pair .step) (now (symbols .entry))) (half-kept (now (bytes .entry))) ⌝ }
 {
@@ -102,7 +120,10 @@ mod tests {
         let mut store = ByteStore::new(&mut bytes);
         check_eq(store.read(0), Ok(Entry::Missing))?;
         check_eq(store.read(1), Ok(Entry::Symbol(254)))?;
-        check_eq(store.put(0, 255), Err(StoreFault::NotASymbol { position: 0 }))?;
+        check_eq(
+            store.put(0, 255),
+            Err(StoreFault::NotASymbol { position: 0 }),
+        )?;
         check_eq(store.wipe(2), Err(StoreFault::NoEntry { position: 2 }))
     }
 
@@ -122,7 +143,10 @@ mod tests {
     fn pile_over_bytes() -> Result<(), Fail> {
         let pair = StridePair::new(5, 2)?;
         let mut bytes = [9; 8];
-        check_eq(put_into_bytes(&mut bytes, 1, 6, pair, &[0, 1, 2, 3]), Ok(()))?;
+        check_eq(
+            put_into_bytes(&mut bytes, 1, 6, pair, &[0, 1, 2, 3]),
+            Ok(()),
+        )?;
         check_eq(bytes, [9, 0, 3, 1, 9, 2, 9, 9])
     }
 
@@ -131,7 +155,10 @@ mod tests {
         let pair = StridePair::new(3, 2)?;
         let mut bytes = [0xff; 2];
         let fault = StoreFault::NotASymbol { position: 2 };
-        check_eq(put_into_halves(&mut bytes, 1, 3, pair, &[1, 2, 15]), Err(fault))?;
+        check_eq(
+            put_into_halves(&mut bytes, 1, 3, pair, &[1, 2, 15]),
+            Err(fault),
+        )?;
         check_eq(bytes, [0x1f, 0x2f])?;
         check_eq(fault.number(), 11)
     }

@@ -1,14 +1,13 @@
-use Prim.Native.Nat.{_*_, _<_, _≤_}
-use native.Mathlib.Nat.{mul-le-mul}
-use native.Mathlib.Omega.{arith}
-use Rattle.layers.proofs.StrideView.{stride-has}
+use Prim.Native.Nat.{_*_, _%_}
+use Rattle.layers.specs.Strides.{stride-meaning, stride-kept}
+use Rattle.layers.proofs.Views.{passes}
+use Rattle.layers.proofs.StrideView.{stride-shows}
 use Rattle.layers.proofs.stride.Stride.place.Needs as need
 
-pub mul-result : need.mul-result
-mul-result g c =
-    let s = c .args .self .now in
+pub returns : need.returns
+returns g c =
+    let w = c .args .self .now in
     let i = c .args .i in
-    let h = stride-has (g .S·Store .meaning (s .below)) (s .pair .n) (s .pair .step) i (omega arith) in
-    let a : s .pair .step ≤ 65536 = omega (arith, s .pair .within, s .pair .most) in
-    let b : i ≤ 65536 = omega (arith, h .1, s .pair .most) in
-    omega (arith, mul-le-mul a b)
+    let m = g .S·Store .meaning (w .below) in
+    let k = g .S·Store .kept (w .below) in
+    passes (λ x. stride-meaning x (w .pair .n) (w .pair .step)) (λ x y. stride-kept x y (w .pair .n) (w .pair .step)) m k i ((w .pair .step * i) % w .pair .n) (stride-shows m k (w .pair .n) (w .pair .step) i (w .pair .some) (w .pair .apart)) (c .position .result) (c .position .ensures)

@@ -1,9 +1,15 @@
-use mathlib.Core.Path.{sym}
-use native.Mathlib.Omega.{arith}
-use Rattle.layers.proofs.StrideView.{stride-count}
+use mathlib.Core.Path.{sym, ap, _∙_}
+use mathlib.Core.Bool.{cond}
+use lib.Dec.{leb}
+use Rattle.layers.proofs.StrideView.{stride-counted, stride-sound}
 use Rattle.layers.proofs.stride.StrideStore.count.Needs as need
 
-pub returns-else-count-self : need.returns-else-count-self
-returns-else-count-self g c =
+pub returns : need.returns
+returns g c =
     let s = c .args .self .now in
-    sym (stride-count (g .S·Store .meaning (s .below)) (s .pair .n) (s .pair .step) (omega arith))
+    let m = g .S·Store .meaning (s .below) in
+    let n = s .pair .n in
+    record {
+      is = c .shown .ensures ∙ ap (λ k. cond (leb n k) n 0) (c .count .ensures .is) ∙ sym (stride-counted m n (s .pair .step));
+      sound = stride-sound m n (s .pair .step) (c .count .ensures .sound);
+    }
