@@ -108,31 +108,21 @@ pub impl<'a> Store for ByteStore<'a> as ByteStoreStore {
     }
 
     fn read(&mut self, i: usize) -> Result<Entry, StoreFault> {
-        match StoreFault::of_access(self.count(), i) {
-            Some(fault) => Err(fault),
-            None => Ok(self.entry(i)),
-        }
+        StoreFault::check_access(self.count(), i)?;
+        Ok(self.entry(i))
     }
 }
 
 pub impl<'a> WritableStore for ByteStore<'a> as ByteStoreWritable {
     fn put(&mut self, i: usize, symbol: u8) -> Result<(), StoreFault> {
-        match StoreFault::of_put(self.count(), self.alphabet(), i, symbol) {
-            Some(fault) => Err(fault),
-            None => {
-                self.write(i, Entry::Symbol(symbol));
-                Ok(())
-            }
-        }
+        StoreFault::check_put(self.count(), self.alphabet(), i, symbol)?;
+        self.write(i, Entry::Symbol(symbol));
+        Ok(())
     }
 
     fn wipe(&mut self, i: usize) -> Result<(), StoreFault> {
-        match StoreFault::of_access(self.count(), i) {
-            Some(fault) => Err(fault),
-            None => {
-                self.write(i, Entry::Missing);
-                Ok(())
-            }
-        }
+        StoreFault::check_access(self.count(), i)?;
+        self.write(i, Entry::Missing);
+        Ok(())
     }
 }

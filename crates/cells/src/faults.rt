@@ -1,8 +1,7 @@
 // Why a store refuses. `position` is the entry asked for.
 ghost use mathlib.Core.Path.{_≡_};
 ghost use Prim.Native.Nat.{_<_};
-ghost use Rattle.std.specs.declared.option.Option.the-variants.{Some, None};
-ghost use Rattle.cells.specs.Refusals.{store-fault-code, fault-at, access-fault, put-fault};
+ghost use Rattle.cells.specs.Refusals.{store-fault-code, fault-at, access-fault, put-fault, Checked};
 use fault::Fault;
 use fault::FaultCode;
 use fault::Part;
@@ -16,30 +15,26 @@ pub enum StoreFault {
 }
 
 impl StoreFault {
-    // Why a read or a wipe of entry `i` is refused in a store of `count` entries.
-    pub fn of_access(count: usize, i: usize) -> Option<StoreFault>
-        ensures is { λ r. ⌜ r ≡ access-fault count i ⌝ }
-        ensures within { λ r. ⌜ elim r [ Some f ↦ Unit {0} | None ↦ i < count ] ⌝ }
+    // Refuses a read or a wipe of entry `i` where there are only `count` entries.
+    pub fn check_access(count: usize, i: usize) -> Result<(), StoreFault>
+        ensures { λ r. ⌜ Checked r (access-fault count i) (i < count) ⌝ }
     {
         if i < count {
-            None
+            Ok(())
         } else {
-            Some(StoreFault::NoEntry { position: i })
+            Err(StoreFault::NoEntry { position: i })
         }
     }
 
-    // Why a put of `symbol` into entry `i` is refused in a store of `count` entries over `alphabet`.
-    pub fn of_put(count: usize, alphabet: u8, i: usize, symbol: u8) -> Option<StoreFault>
-        ensures is { λ r. ⌜ r ≡ put-fault count alphabet i symbol ⌝ }
-        ensures within { λ r. ⌜ elim r [ Some f ↦ Unit {0} | None ↦ (i < count) × (symbol < alphabet) ] ⌝ }
+    // Refuses a put of `symbol` into entry `i` where there are only `count` entries, or where the symbol is not below `alphabet`.
+    pub fn check_put(count: usize, alphabet: u8, i: usize, symbol: u8) -> Result<(), StoreFault>
+        ensures { λ r. ⌜ Checked r (put-fault count alphabet i symbol) ((i < count) × (symbol < alphabet)) ⌝ }
     {
-        if i >= count {
-            return Some(StoreFault::NoEntry { position: i });
-        }
+        StoreFault::check_access(count, i)?;
         if symbol < alphabet {
-            None
+            Ok(())
         } else {
-            Some(StoreFault::NotASymbol { position: i })
+            Err(StoreFault::NotASymbol { position: i })
         }
     }
 

@@ -2,6 +2,7 @@
 ghost use mathlib.Core.Path.{_≡_};
 ghost use mathlib.Core.List.{List, [], _∷_};
 ghost use Prim.Native.Nat.{ℕ, _*_, _%_, _<_, min};
+ghost use lib.Dec.{eqb};
 ghost use denote.Ref.{now, name};
 ghost use Rattle.cells.specs.Stores.{InAlphabet, count-of, entry-at, with-entry};
 ghost use Rattle.cells.specs.HalfStores.{half-entry, half-meaning, half-kept, half-of, with-half, entry-half};
@@ -77,11 +78,18 @@ fn code_of(entry: Entry) -> u8
     }
 }
 
+// Whether cell `i` is the lower half of its byte.
+fn is_lower(i: usize) -> bool
+    ensures { λ r. ⌜ r ≡ eqb (i % 2) 0 ⌝ }
+{
+    i % 2 == 0
+}
+
 // The half of `byte` that is cell `i`.
 fn half_of(byte: u8, i: usize) -> u8
     ensures { λ r. ⌜ r ≡ half-of byte (i % 2) ⌝ }
 {
-    if i % 2 == 0 { byte % 16 } else { byte / 16 }
+    if is_lower(i) { byte % 16 } else { byte / 16 }
 }
 
 // `byte` with `half` in cell `i`.
@@ -89,7 +97,7 @@ fn with_half(byte: u8, i: usize, half: u8) -> u8
     requires { ⌜ half < 16 ⌝ }
     ensures { λ r. ⌜ r ≡ with-half byte (i % 2) half ⌝ }
 {
-    if i % 2 == 0 {
+    if is_lower(i) {
         byte / 16 * 16 + half
     } else {
         half * 16 + byte % 16
@@ -129,31 +137,21 @@ pub impl<'a> Store for HalfStore<'a> as HalfStoreStore {
     }
 
     fn read(&mut self, i: usize) -> Result<Entry, StoreFault> {
-        match StoreFault::of_access(self.count(), i) {
-            Some(fault) => Err(fault),
-            None => Ok(self.entry(i)),
-        }
+        StoreFault::check_access(self.count(), i)?;
+        Ok(self.entry(i))
     }
 }
 
 pub impl<'a> WritableStore for HalfStore<'a> as HalfStoreWritable {
     fn put(&mut self, i: usize, symbol: u8) -> Result<(), StoreFault> {
-        match StoreFault::of_put(self.count(), self.alphabet(), i, symbol) {
-            Some(fault) => Err(fault),
-            None => {
-                self.write(i, Entry::Symbol(symbol));
-                Ok(())
-            }
-        }
+        StoreFault::check_put(self.count(), self.alphabet(), i, symbol)?;
+        self.write(i, Entry::Symbol(symbol));
+        Ok(())
     }
 
     fn wipe(&mut self, i: usize) -> Result<(), StoreFault> {
-        match StoreFault::of_access(self.count(), i) {
-            Some(fault) => Err(fault),
-            None => {
-                self.write(i, Entry::Missing);
-                Ok(())
-            }
-        }
+        StoreFault::check_access(self.count(), i)?;
+        self.write(i, Entry::Missing);
+        Ok(())
     }
 }
