@@ -1,5 +1,4 @@
-pub mod ByteStores
-pub mod HalfStores
+pub mod Bytes
 pub mod Puts
 pub mod Refusals
 pub mod Stores

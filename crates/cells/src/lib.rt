@@ -1,16 +1,9 @@
-// Stores of cells: what a store means, and two stores over lent bytes.
-mod byte;
+// Stores of cells: what a store means, and what its calls answer, leave and refuse.
 mod entries;
 mod faults;
-mod half;
-mod lending;
 mod puts;
 mod stores;
 
-pub use byte::ByteStore;
-pub use byte::ByteStoreDefault;
-pub use byte::ByteStoreStore;
-pub use byte::ByteStoreWritable;
 pub use entries::Entry;
 pub use entries::EntryDebug;
 pub use entries::EntryEq;
@@ -20,11 +13,6 @@ pub use faults::StoreFaultCoded;
 pub use faults::StoreFaultDebug;
 pub use faults::StoreFaultEq;
 pub use faults::StoreFaultPartialEq;
-pub use half::HalfStore;
-pub use half::HalfStoreDefault;
-pub use half::HalfStoreStore;
-pub use half::HalfStoreWritable;
-pub use lending::bytes_are_told;
 pub use puts::put_all;
 pub use stores::Store;
 pub use stores::WritableStore;

@@ -8,11 +8,11 @@ use lib.ListN.{length, take}
 use Rattle.std.proofs.shelf.Lists.{length-take}
 use Rattle.cells.specs.Stores.{Meaning, count-of}
 use Rattle.cells.specs.Puts.{accepted, laid, put-all-in}
-use Rattle.layers.specs.Windows.{WindowKept, window-meaning, window-kept}
-use Rattle.layers.specs.Strides.{MakesStride, StrideKept, stride-meaning, stride-kept}
-use Rattle.layers.proofs.Views.{laid-passed}
-use Rattle.layers.proofs.WindowView.{window-shows, window-told}
-use Rattle.layers.proofs.StrideView.{stride-has, stride-shows, stride-told}
+use Rattle.window.specs.Windows.{WindowKept, window-meaning, window-kept}
+use Rattle.stride.specs.Strides.{MakesStride, StrideKept, stride-meaning, stride-kept}
+use Rattle.layer.proofs.Views.{laid-passed}
+use Rattle.window.proofs.WindowView.{window-shows, window-told}
+use Rattle.stride.proofs.StrideView.{stride-has, stride-shows, stride-told}
 use Rattle.piles.specs.Piles.{pile-meaning, pile-place, piled}
 
 module _ {K : Type 0} (m : Meaning) (k : K) (start len n step : ℕ) (ok : MakesStride n step) (vs : List ℕ) where

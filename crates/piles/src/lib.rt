@@ -1,30 +1,58 @@
 // Symbols put through a stride over a window: into any store, and into lent bytes.
 ghost use mathlib.Core.Path.{_≡_};
 ghost use Rattle.cells.specs.Puts.{put-all-answer};
-ghost use Rattle.cells.specs.ByteStores.{byte-meaning, byte-kept, byte-row};
-ghost use Rattle.cells.specs.HalfStores.{half-meaning, half-kept, half-row};
+ghost use Rattle.byte_store.specs.ByteStores.{byte-meaning, byte-kept, byte-row};
+ghost use Rattle.half_store.specs.HalfStores.{half-meaning, half-kept, half-row};
 ghost use Rattle.piles.specs.Piles.{pile-meaning, piled};
-use cells::ByteStore;
-use cells::ByteStoreDefault;
-use cells::ByteStoreStore;
-use cells::ByteStoreWritable;
-use cells::HalfStore;
-use cells::HalfStoreDefault;
-use cells::HalfStoreStore;
-use cells::HalfStoreWritable;
+use byte_store::ByteStore;
+use byte_store::ByteStoreDefault;
+use byte_store::ByteStoreStore;
+use byte_store::ByteStoreWritable;
 use cells::Store;
 use cells::StoreFault;
 use cells::WritableStore;
 use cells::put_all;
-use layers::Stride;
-use layers::StridePair;
-use layers::StrideStore;
-use layers::StrideWritable;
-use layers::Window;
-use layers::WindowStore;
-use layers::WindowWritable;
+use half_store::HalfStore;
+use half_store::HalfStoreDefault;
+use half_store::HalfStoreStore;
+use half_store::HalfStoreWritable;
+use stride::Stride;
+use stride::StridePair;
+use stride::StrideStore;
+use stride::StrideWritable;
+use window::Window;
+use window::WindowStore;
+use window::WindowWritable;
 
-// Puts `symbols` into the entries of the pile from 0 on, up to the first that is refused.
+// A stride over a window of the store.
+fn pile_over<S: Store>(store: S, start: usize, len: usize, pair: StridePair) -> Stride<Window<S>>
+    ensures store { λ r. ⌜ r .below .below ≡ store ⌝ }
+    ensures start { λ r. ⌜ r .below .start ≡ start ⌝ }
+    ensures len { λ r. ⌜ r .below .len ≡ len ⌝ }
+    ensures pair { λ r. ⌜ r .pair ≡ pair ⌝ }
+{
+    Stride::new(pair, Window::new(store, start, len))
+}
+
+// Puts `symbols` into the entries of the pile from 0 on, up to the first that is refused, and gives the store back.
+fn put_and_return<S: WritableStore>(
+    store: S,
+    start: usize,
+    len: usize,
+    pair: StridePair,
+    symbols: &[u8],
+) -> (S, Result<(), StoreFault>)
+    ensures answer { λ r. ⌜ r .1 ≡ put-all-answer (pile-meaning (S·Store .meaning store) start len (pair .n) (pair .step)) (now (symbols .entry)) ⌝ }
+    ensures done { λ r. ⌜ S·Store .meaning (r .0) ≡ piled (S·Store .meaning store) start len (pair .n) (pair .step) (now (symbols .entry)) ⌝ }
+    ensures kept { λ r. ⌜ S·Store .kept (r .0) ≡ S·Store .kept store ⌝ }
+    ensures lent { λ r. ⌜ S·Store .lent (r .0) ≡ S·Store .lent store ⌝ }
+{
+    let mut pile = pile_over(store, start, len, pair);
+    let answer = put_all(&mut pile, symbols);
+    (pile.into_below().into_below(), answer)
+}
+
+// The same, with the store left where it is.
 pub fn put_through<S: WritableStore + Default + Drop>(
     store: &mut S,
     start: usize,
@@ -37,10 +65,8 @@ pub fn put_through<S: WritableStore + Default + Drop>(
     ensures kept { λ _. ⌜ S·Store .kept (now (store .exit)) ≡ S·Store .kept (now (store .entry)) ⌝ }
     ensures lent { λ _. ⌜ S·Store .lent (now (store .exit)) ≡ S·Store .lent (now (store .entry)) ⌝ }
 {
-    let below = std::mem::take(store);
-    let mut pile = Stride::new(pair, Window::new(below, start, len));
-    let answer = put_all(&mut pile, symbols);
-    *store = pile.into_below().into_below();
+    let (back, answer) = put_and_return(std::mem::take(store), start, len, pair, symbols);
+    *store = back;
     answer
 }
 
@@ -78,15 +104,12 @@ pub fn put_into_halves(
 mod tests {
     use crate::put_into_bytes;
     use crate::put_into_halves;
-    use cells::ByteStore;
-    use cells::ByteStoreStore;
-    use cells::ByteStoreWritable;
+    use byte_store::ByteStore;
+    use byte_store::ByteStoreStore;
+    use byte_store::ByteStoreWritable;
     use cells::Entry;
     use cells::EntryDebug;
     use cells::EntryPartialEq;
-    use cells::HalfStore;
-    use cells::HalfStoreStore;
-    use cells::HalfStoreWritable;
     use cells::Store;
     use cells::StoreFault;
     use cells::StoreFaultCoded;
@@ -94,14 +117,17 @@ mod tests {
     use cells::StoreFaultPartialEq;
     use cells::WritableStore;
     use fault::Fault;
-    use layers::StrideFault;
-    use layers::StrideFaultCoded;
-    use layers::StrideFaultDebug;
-    use layers::StrideFaultPartialEq;
-    use layers::StridePair;
-    use layers::StridePairDebug;
-    use layers::StridePairPartialEq;
+    use half_store::HalfStore;
+    use half_store::HalfStoreStore;
+    use half_store::HalfStoreWritable;
     use std::test::*;
+    use stride::StrideFault;
+    use stride::StrideFaultCoded;
+    use stride::StrideFaultDebug;
+    use stride::StrideFaultPartialEq;
+    use stride::StridePair;
+    use stride::StridePairDebug;
+    use stride::StridePairPartialEq;
 
     #[test]
     fn fifteen_takes_step_two_and_not_three() -> Result<(), Fail> {

@@ -2,8 +2,8 @@ use mathlib.Core.Path.{ap, _∙_}
 use native.Mathlib.Omega.{arith}
 use borrow.Author.Needs.{needs}
 use Rattle.cells.specs.Puts.{put-all-answer}
-use Rattle.cells.specs.ByteStores.{byte-meaning, byte-kept, byte-row}
-use Rattle.cells.proofs.ByteCells.{bytes-told}
+use Rattle.byte_store.specs.ByteStores.{byte-meaning, byte-kept, byte-row}
+use Rattle.byte_store.proofs.ByteCells.{bytes-told}
 use Rattle.cells.proofs.Lenders.{lender-told}
 use Rattle.piles.specs.Piles.{pile-meaning, piled}
 use Rattle.piles.proofs.put_into_bytes.Needs as need

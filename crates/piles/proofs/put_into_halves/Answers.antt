@@ -2,8 +2,8 @@ use mathlib.Core.Path.{ap, _∙_}
 use native.Mathlib.Omega.{arith}
 use borrow.Author.Needs.{needs}
 use Rattle.cells.specs.Puts.{put-all-answer}
-use Rattle.cells.specs.HalfStores.{half-meaning, half-kept, half-row}
-use Rattle.cells.proofs.HalfCells.{halves-told}
+use Rattle.half_store.specs.HalfStores.{half-meaning, half-kept, half-row}
+use Rattle.half_store.proofs.HalfCells.{halves-told}
 use Rattle.cells.proofs.Lenders.{lender-told}
 use Rattle.piles.specs.Piles.{pile-meaning, piled}
 use Rattle.piles.proofs.put_into_halves.Needs as need

@@ -1,4 +1,0 @@
-pub mod Divisors
-pub mod StrideView
-pub mod Views
-pub mod WindowView
