@@ -96,8 +96,8 @@ pub fn put_into_halves(
     ensures answer { λ r. ⌜ r ≡ put-all-answer (pile-meaning (half-meaning (now (bytes .entry))) start len (pair .n) (pair .step)) (now (symbols .entry)) ⌝ }
     ensures done { λ _. ⌜ now (bytes .exit) ≡ half-row (piled (half-meaning (now (bytes .entry))) start len (pair .n) (pair .step) (now (symbols .entry))) (half-kept (now (bytes .entry))) ⌝ }
 {
-    let mut store = HalfStore::new(bytes);
-    put_through(&mut store, start, len, pair, symbols)
+    let mut halves = HalfStore::new(bytes);
+    put_through(&mut halves, start, len, pair, symbols)
 }
 
 #[cfg(test)]

@@ -11,7 +11,7 @@ use Rattle.piles.proofs.put_into_halves.Needs as need
 pub returns : need.returns
 returns c =
     let e = c .put-through .ensures in
-    let s = c .new-store .ensures .same in
+    let s = c .new-halves .ensures .same in
     let start = c .args .start in
     let len = c .args .len in
     let pair = c .args .pair in
