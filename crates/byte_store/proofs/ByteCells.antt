@@ -1,25 +1,17 @@
 -- The cells of a row of bytes, one a byte.
 use mathlib.Core.Path.{_≡_, refl, sym, ap, _∙_}
 use mathlib.Core.List.{List, [], _∷_, _++_, map}
-use mathlib.Core.Logic.{inl, inr}
-use Prim.Native.Nat.{ℕ, suc, _<_, _≤_, min}
+use Prim.Native.Nat.{ℕ, suc, _<_, min}
 use native.Mathlib.Omega.{arith}
-use lib.Dec.{ltb}
 use lib.ListN.{length, getD, set, take, drop}
-use Rattle.std.proofs.shelf.Tests.{lt-ltb, le-ltb, cond-true, cond-false, cases-lt}
-use Rattle.std.proofs.shelf.Lists.{length-map, length-take, getD-map, getD-take, getD-past, map-set, drop-set-lt, take-append-drop}
+use Rattle.std.proofs.shelf.Lists.{length-map, length-take, getD-map, getD-take, map-set, drop-set-lt, take-append-drop}
 use Rattle.cells.specs.declared.entries.Entry.{Entry}
-use Rattle.cells.specs.declared.entries.Entry.the-variants.{Symbol, Missing}
+use Rattle.cells.specs.declared.entries.Entry.the-variants.{Missing}
 use Rattle.cells.specs.Bytes.{AreBytes}
-use Rattle.cells.specs.Stores.{InAlphabet, Meaning, Sound, count-of, entry-at, with-entry}
+use Rattle.cells.specs.Stores.{Meaning, Sound, count-of, entry-at, with-entry}
 use Rattle.byte_store.specs.ByteStores.{byte-entry, byte-meaning, byte-kept, entry-byte, BytesTold}
+use Rattle.cells.proofs.Codes.{code-back, code-in, sound-from}
 use Rattle.cells.proofs.Lenders.{take-set-in, front-bytes}
-
-pub byte-symbol : (b : ℕ) → b < 255 → byte-entry b ≡ Symbol b
-byte-symbol b h = cond-true (ltb b 255) _ _ (lt-ltb b 255 h)
-
-pub byte-missing : (b : ℕ) → 255 ≤ b → byte-entry b ≡ Missing
-byte-missing b h = cond-false (ltb b 255) _ _ (le-ltb b 255 h)
 
 pub byte-count : (bs : List ℕ) → count-of (byte-meaning bs) ≡ min 65536 (length bs)
 byte-count bs = length-map (take 65536 bs) byte-entry ∙ length-take 65536 bs
@@ -38,27 +30,12 @@ byte-set bs i v =
 pub byte-rest : (bs : List ℕ) (i v : ℕ) → i < count-of (byte-meaning bs) → byte-kept (set bs i v) ≡ byte-kept bs
 byte-rest bs i v h = let n = byte-count bs in drop-set-lt 65536 bs i v (omega arith)
 
--- a byte that stands for an entry is read as it
-pub byte-again : (e : Entry) → InAlphabet 255 e → byte-entry (entry-byte e) ≡ e
-byte-again (Symbol v) h = byte-symbol v h
-byte-again Missing h = byte-missing 255 (omega arith)
-
-byte-in : (b : ℕ) → InAlphabet 255 (byte-entry b)
-byte-in b = elim (cases-lt b 255) [ inl h ↦ rw (byte-symbol b h) h | inr h ↦ rw (byte-missing b h) tt ]
-
 pub byte-sound : (bs : List ℕ) → Sound (byte-meaning bs)
-byte-sound bs i = elim (cases-lt i (count-of (byte-meaning bs))) [
-  | inl h ↦ rw (byte-at bs i h) (byte-in (getD bs i 0))
-  | inr h ↦ rw (getD-past (byte-meaning bs .entries) i Missing h) tt
-]
-
--- an entry stands in the byte that it was read from
-byte-back : (b : ℕ) → b < 256 → entry-byte (byte-entry b) ≡ b
-byte-back b h = elim (cases-lt b 255) [ inl k ↦ ap entry-byte (byte-symbol b k) | inr k ↦ ap entry-byte (byte-missing b k) ∙ omega arith ]
+byte-sound bs = sound-from (byte-meaning bs) (λ i h. rw (byte-at bs i h) (code-in 255 (getD bs i 0)))
 
 bytes-back : (bs : List ℕ) → AreBytes bs → map entry-byte (map byte-entry bs) ≡ bs
 bytes-back [] h = refl
-bytes-back (b ∷ bs) h = let p = byte-back b (h 0) in let q = bytes-back bs (λ i. h (suc i)) in cc
+bytes-back (b ∷ bs) h = let p = code-back 255 b (omega (arith, h 0)) in let q = bytes-back bs (λ i. h (suc i)) in cc
 
 pub bytes-told : BytesTold
 bytes-told bs h = sym (ap (λ f. f ++ drop 65536 bs) (bytes-back (take 65536 bs) (front-bytes 65536 bs h)) ∙ take-append-drop 65536 bs)

@@ -1,18 +1,16 @@
 -- One cell a byte.
 use mathlib.Core.Path.{_≡_}
 use mathlib.Core.List.{List, map, _++_}
-use mathlib.Core.Bool.{cond}
 use Prim.Native.Nat.{ℕ}
-use lib.Dec.{ltb}
 use lib.ListN.{take, drop}
 use Rattle.cells.specs.declared.entries.Entry.{Entry}
-use Rattle.cells.specs.declared.entries.Entry.the-variants.{Symbol, Missing}
 use Rattle.cells.specs.Bytes.{AreBytes}
+use Rattle.cells.specs.Codes.{code-entry, entry-code}
 use Rattle.cells.specs.Stores.{Meaning}
 
 -- a byte below 255 is that symbol, and 255 is missing
 abbrev pub byte-entry : ℕ → Entry
-byte-entry b = cond (ltb b 255) (Symbol b) Missing
+byte-entry b = code-entry 255 b
 
 -- the first 65,536 bytes are cells
 abbrev pub byte-meaning : List ℕ → Meaning
@@ -24,8 +22,7 @@ byte-kept bs = drop 65536 bs
 
 -- the byte in which an entry stands
 abbrev pub entry-byte : Entry → ℕ
-entry-byte (Symbol v) = v
-entry-byte Missing = 255
+entry-byte e = entry-code 255 e
 
 -- the bytes in which entries stand, with others past them
 abbrev pub byte-row : Meaning → List ℕ → List ℕ

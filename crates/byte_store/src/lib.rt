@@ -4,7 +4,7 @@ ghost use mathlib.Core.List.{List, [], _∷_};
 ghost use Prim.Native.Nat.{ℕ, _<_, min};
 ghost use denote.Ref.{now, name};
 ghost use Rattle.cells.specs.Stores.{InAlphabet, count-of, entry-at, with-entry};
-ghost use Rattle.byte_store.specs.ByteStores.{BytesTold, byte-entry, byte-meaning, byte-kept, entry-byte};
+ghost use Rattle.byte_store.specs.ByteStores.{BytesTold, byte-meaning, byte-kept};
 use cells::Entry;
 use cells::Store;
 use cells::StoreFault;
@@ -12,7 +12,7 @@ use cells::WritableStore;
 
 const MOST_CELLS: usize = 65_536;
 
-const MISSING: u8 = 255;
+const ALPHABET: u8 = 255;
 
 // The byte 255 is missing, any other is that symbol. Bytes past 65,536 are no cells.
 #[derive(Drop)]
@@ -42,7 +42,7 @@ impl<'a> ByteStore<'a> {
         requires { ⌜ i < count-of (byte-meaning (now (now self .bytes))) ⌝ }
         ensures { λ r. ⌜ r ≡ entry-at (byte-meaning (now (now (self .entry) .bytes))) i ⌝ }
     {
-        entry_of(self.bytes[i])
+        Entry::of_code(self.bytes[i], ALPHABET)
     }
 
     fn write(&mut self, i: usize, entry: Entry)
@@ -51,27 +51,7 @@ impl<'a> ByteStore<'a> {
         ensures kept { λ _. ⌜ byte-kept (now (now (self .exit) .bytes)) ≡ byte-kept (now (now (self .entry) .bytes)) ⌝ }
         ensures lent { λ _. ⌜ name (now (self .exit) .bytes) ≡ name (now (self .entry) .bytes) ⌝ }
     {
-        self.bytes[i] = code_of(entry);
-    }
-}
-
-fn entry_of(byte: u8) -> Entry
-    ensures { λ r. ⌜ r ≡ byte-entry byte ⌝ }
-{
-    if byte == MISSING {
-        Entry::Missing
-    } else {
-        Entry::Symbol(byte)
-    }
-}
-
-// The byte in which an entry stands.
-fn code_of(entry: Entry) -> u8
-    ensures { λ r. ⌜ r ≡ entry-byte entry ⌝ }
-{
-    match entry {
-        Entry::Symbol(symbol) => symbol,
-        Entry::Missing => MISSING,
+        self.bytes[i] = entry.code(ALPHABET);
     }
 }
 
@@ -104,7 +84,7 @@ pub impl<'a> Store for ByteStore<'a> as ByteStoreStore {
     }
 
     fn alphabet(&self) -> u8 {
-        255
+        ALPHABET
     }
 
     fn read(&mut self, i: usize) -> Result<Entry, StoreFault> {

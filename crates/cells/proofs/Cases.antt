@@ -5,6 +5,7 @@ use Prim.Native.Nat.{ℕ, _<_, _≤_}
 use native.Mathlib.Omega.{arith}
 use lib.Dec.{ltb}
 use Rattle.std.proofs.shelf.Tests.{lt-ltb, le-ltb, cond-true, cond-false, cases-lt}
+use Rattle.std.proofs.shelf.Lists.{length-set}
 use Rattle.std.specs.declared.option.Option.{Option}
 use Rattle.std.specs.declared.option.Option.the-variants.{Some, None}
 use Rattle.std.specs.declared.result.Result.{Result}
@@ -96,3 +97,15 @@ module _ (m : Meaning) (i v : ℕ) (r : Result (Unit {0}) StoreFault) (a : r ≡
   put-err e b =
       let f = unless-err (put-fault (count-of m) (m .alphabet) i v) tt e (sym a ∙ b) in
       (f, ap (λ g. left-unless g m (with-entry m i (Symbol v))) f)
+
+-- no call changes the count and the alphabet
+
+left-stays : (f : Option StoreFault) (m : Meaning) (i : ℕ) (e : Entry) → (count-of (left-unless f m (with-entry m i e)) ≡ count-of m) × (left-unless f m (with-entry m i e) .alphabet ≡ m .alphabet)
+left-stays (Some f) m i e = (refl, refl)
+left-stays None m i e = (length-set (m .entries) i e, refl)
+
+pub put-stays : (m : Meaning) (i v : ℕ) → (count-of (put-in m i v) ≡ count-of m) × (put-in m i v .alphabet ≡ m .alphabet)
+put-stays m i v = left-stays (put-fault (count-of m) (m .alphabet) i v) m i (Symbol v)
+
+pub wipe-stays : (m : Meaning) (i : ℕ) → (count-of (wiped m i) ≡ count-of m) × (wiped m i .alphabet ≡ m .alphabet)
+wipe-stays m i = left-stays (access-fault (count-of m) i) m i Missing

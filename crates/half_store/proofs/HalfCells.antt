@@ -1,25 +1,17 @@
 -- The cells of a row of bytes, two a byte.
 use mathlib.Core.Path.{_≡_, refl, sym, ap, _∙_}
 use mathlib.Core.List.{List, [], _∷_, _++_}
-use mathlib.Core.Logic.{inl, inr}
-use Prim.Native.Nat.{ℕ, zero, suc, _+_, _*_, _/_, _%_, _<_, _≤_, min}
+use Prim.Native.Nat.{ℕ, zero, suc, _+_, _*_, _/_, _%_, _<_, min}
 use native.Mathlib.Omega.{arith}
-use lib.Dec.{ltb}
 use lib.ListN.{length, getD, set, take, drop}
-use Rattle.std.proofs.shelf.Tests.{lt-ltb, le-ltb, cond-true, cond-false, cases-lt}
-use Rattle.std.proofs.shelf.Lists.{length-take, getD-take, getD-past, drop-set-lt, take-append-drop}
+use Rattle.std.proofs.shelf.Lists.{length-take, getD-take, drop-set-lt, take-append-drop}
 use Rattle.cells.specs.declared.entries.Entry.{Entry}
-use Rattle.cells.specs.declared.entries.Entry.the-variants.{Symbol, Missing}
+use Rattle.cells.specs.declared.entries.Entry.the-variants.{Missing}
 use Rattle.cells.specs.Bytes.{AreBytes}
-use Rattle.cells.specs.Stores.{InAlphabet, Meaning, Sound, count-of, entry-at, with-entry}
+use Rattle.cells.specs.Stores.{Meaning, Sound, count-of, entry-at, with-entry}
 use Rattle.half_store.specs.HalfStores.{half-entry, half-entries, half-meaning, half-kept, half-of, with-half, entry-half, half-bytes, HalvesTold}
+use Rattle.cells.proofs.Codes.{code-back, code-in, sound-from}
 use Rattle.cells.proofs.Lenders.{take-set-in, front-bytes}
-
-pub half-symbol : (h : ℕ) → h < 15 → half-entry h ≡ Symbol h
-half-symbol h l = cond-true (ltb h 15) _ _ (lt-ltb h 15 l)
-
-pub half-missing : (h : ℕ) → 15 ≤ h → half-entry h ≡ Missing
-half-missing h l = cond-false (ltb h 15) _ _ (le-ltb h 15 l)
 
 halves-count : (bs : List ℕ) → length (half-entries bs) ≡ 2 * length bs
 halves-count [] = refl
@@ -65,33 +57,14 @@ half-set bs i v h k =
 pub half-rest : (bs : List ℕ) (i x : ℕ) → i < count-of (half-meaning bs) → half-kept (set bs (i / 2) x) ≡ half-kept bs
 half-rest bs i x h = let n = half-count bs in drop-set-lt 32768 bs (i / 2) x (omega arith)
 
--- a half that stands for an entry is read as it
-pub half-again : (e : Entry) → InAlphabet 15 e → half-entry (entry-half e) ≡ e
-half-again (Symbol v) h = half-symbol v h
-half-again Missing h = half-missing 15 (omega arith)
-
-pub entry-half-below : (e : Entry) → InAlphabet 15 e → entry-half e < 16
-entry-half-below (Symbol v) h = omega arith
-entry-half-below Missing h = omega arith
-
-half-in : (h : ℕ) → InAlphabet 15 (half-entry h)
-half-in h = elim (cases-lt h 15) [ inl l ↦ rw (half-symbol h l) l | inr l ↦ rw (half-missing h l) tt ]
-
 pub half-sound : (bs : List ℕ) → Sound (half-meaning bs)
-half-sound bs i = elim (cases-lt i (count-of (half-meaning bs))) [
-  | inl h ↦ rw (half-at bs i h) (half-in (half-of (getD bs (i / 2) 0) (i % 2)))
-  | inr h ↦ rw (getD-past (half-meaning bs .entries) i Missing h) tt
-]
-
--- an entry stands in the half that it was read from
-half-back : (h : ℕ) → h < 16 → entry-half (half-entry h) ≡ h
-half-back h l = elim (cases-lt h 15) [ inl k ↦ ap entry-half (half-symbol h k) | inr k ↦ ap entry-half (half-missing h k) ∙ omega arith ]
+half-sound bs = sound-from (half-meaning bs) (λ i h. rw (half-at bs i h) (code-in 15 (half-of (getD bs (i / 2) 0) (i % 2))))
 
 halves-back : (bs : List ℕ) → AreBytes bs → half-bytes (half-entries bs) ≡ bs
 halves-back [] h = refl
 halves-back (b ∷ bs) h =
-    let l = half-back (b % 16) (omega arith) in
-    let u = half-back (b / 16) (omega (arith, h 0)) in
+    let l = code-back 15 (b % 16) (omega arith) in
+    let u = code-back 15 (b / 16) (omega (arith, h 0)) in
     let q = halves-back bs (λ i. h (suc i)) in
     let e : entry-half (half-entry (b % 16)) + 16 * entry-half (half-entry (b / 16)) ≡ b = omega arith in
     cc

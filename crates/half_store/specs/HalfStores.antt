@@ -3,16 +3,16 @@ use mathlib.Core.Path.{_≡_}
 use mathlib.Core.List.{List, [], _∷_, _++_}
 use mathlib.Core.Bool.{cond}
 use Prim.Native.Nat.{ℕ, _+_, _*_, _/_, _%_}
-use lib.Dec.{ltb, eqb}
+use lib.Dec.{eqb}
 use lib.ListN.{take, drop}
 use Rattle.cells.specs.declared.entries.Entry.{Entry}
-use Rattle.cells.specs.declared.entries.Entry.the-variants.{Symbol, Missing}
 use Rattle.cells.specs.Bytes.{AreBytes}
+use Rattle.cells.specs.Codes.{code-entry, entry-code}
 use Rattle.cells.specs.Stores.{Meaning}
 
 -- a half below 15 is that symbol, and 15 is missing
 abbrev pub half-entry : ℕ → Entry
-half-entry h = cond (ltb h 15) (Symbol h) Missing
+half-entry h = code-entry 15 h
 
 -- the lower half of each byte, then the upper
 abbrev pub half-entries : List ℕ → List Entry
@@ -37,8 +37,7 @@ with-half b p v = cond (eqb p 0) (b / 16 * 16 + v) (v * 16 + b % 16)
 
 -- the half in which an entry stands
 abbrev pub entry-half : Entry → ℕ
-entry-half (Symbol v) = v
-entry-half Missing = 15
+entry-half e = entry-code 15 e
 
 -- the bytes in which entries stand, two a byte
 abbrev pub half-bytes : List Entry → List ℕ

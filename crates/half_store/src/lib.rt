@@ -5,7 +5,7 @@ ghost use Prim.Native.Nat.{ℕ, _*_, _%_, _<_, min};
 ghost use lib.Dec.{eqb};
 ghost use denote.Ref.{now, name};
 ghost use Rattle.cells.specs.Stores.{InAlphabet, count-of, entry-at, with-entry};
-ghost use Rattle.half_store.specs.HalfStores.{HalvesTold, half-entry, half-meaning, half-kept, half-of, with-half, entry-half};
+ghost use Rattle.half_store.specs.HalfStores.{HalvesTold, half-meaning, half-kept, half-of, with-half};
 use cells::Entry;
 use cells::Store;
 use cells::StoreFault;
@@ -14,7 +14,7 @@ use cells::WritableStore;
 // Two cells each: 65,536 cells.
 const MOST_BYTES: usize = 32_768;
 
-const MISSING: u8 = 15;
+const ALPHABET: u8 = 15;
 
 // The lower four bits of a byte are its first cell, the upper its second. The half 15 is missing, any other is that symbol. Bytes past 32,768 are no cells.
 #[derive(Drop)]
@@ -44,7 +44,7 @@ impl<'a> HalfStore<'a> {
         requires { ⌜ i < count-of (half-meaning (now (now self .bytes))) ⌝ }
         ensures { λ r. ⌜ r ≡ entry-at (half-meaning (now (now (self .entry) .bytes))) i ⌝ }
     {
-        entry_of(half_of(self.bytes[i / 2], i))
+        Entry::of_code(half_of(self.bytes[i / 2], i), ALPHABET)
     }
 
     fn write(&mut self, i: usize, entry: Entry)
@@ -53,28 +53,7 @@ impl<'a> HalfStore<'a> {
         ensures kept { λ _. ⌜ half-kept (now (now (self .exit) .bytes)) ≡ half-kept (now (now (self .entry) .bytes)) ⌝ }
         ensures lent { λ _. ⌜ name (now (self .exit) .bytes) ≡ name (now (self .entry) .bytes) ⌝ }
     {
-        self.bytes[i / 2] = with_half(self.bytes[i / 2], i, code_of(entry));
-    }
-}
-
-fn entry_of(half: u8) -> Entry
-    requires { ⌜ half < 16 ⌝ }
-    ensures { λ r. ⌜ r ≡ half-entry half ⌝ }
-{
-    if half == MISSING {
-        Entry::Missing
-    } else {
-        Entry::Symbol(half)
-    }
-}
-
-// The half in which an entry stands.
-fn code_of(entry: Entry) -> u8
-    ensures { λ r. ⌜ r ≡ entry-half entry ⌝ }
-{
-    match entry {
-        Entry::Symbol(symbol) => symbol,
-        Entry::Missing => MISSING,
+        self.bytes[i / 2] = with_half(self.bytes[i / 2], i, entry.code(ALPHABET));
     }
 }
 
@@ -133,7 +112,7 @@ pub impl<'a> Store for HalfStore<'a> as HalfStoreStore {
     }
 
     fn alphabet(&self) -> u8 {
-        15
+        ALPHABET
     }
 
     fn read(&mut self, i: usize) -> Result<Entry, StoreFault> {

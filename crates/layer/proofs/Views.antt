@@ -7,7 +7,7 @@ use native.Mathlib.Omega.{arith}
 use lib.Dec.{ltb}
 use lib.ListN.{length}
 use Rattle.std.proofs.shelf.Tests.{lt-ltb, le-ltb, cond-true, cond-false, cases-lt}
-use Rattle.std.proofs.shelf.Lists.{getD-past, length-set}
+use Rattle.std.proofs.shelf.Lists.{length-set}
 use Rattle.std.specs.declared.option.Option.{Option}
 use Rattle.std.specs.declared.option.Option.the-variants.{Some, None}
 use Rattle.std.specs.declared.result.Result.{Result}
@@ -19,6 +19,7 @@ use Rattle.cells.specs.declared.faults.StoreFault.the-variants.{NotASymbol}
 use Rattle.cells.specs.Stores.{Meaning, Sound, count-of, entry-at, with-entry, read-answer, wipe-answer, wiped, put-answer, put-in}
 use Rattle.cells.specs.Puts.{laid}
 use Rattle.cells.proofs.Cases.{Done, read-none, read-some, wipe-none, wipe-some, put-none, put-not, put-some}
+use Rattle.cells.proofs.Codes.{sound-from}
 use Rattle.layer.specs.Places.{Passes, place-in, told-at, read-through, wipe-through, wiped-through, put-through, put-below}
 
 place-none : (m′ : Meaning) (i at : ℕ) → count-of m′ ≤ i → place-in m′ i at ≡ None
@@ -111,10 +112,7 @@ passes view rest m k i at shows p placed =
 
 -- every entry of a layer is one below
 pub sound-passed : (m m′ : Meaning) (at : ℕ → ℕ) → m′ .alphabet ≡ m .alphabet → ((i : ℕ) → i < count-of m′ → entry-at m′ i ≡ entry-at m (at i)) → Sound m → Sound m′
-sound-passed m m′ at a same s i = elim (cases-lt i (count-of m′)) [
-  | inl h ↦ rw (a, same i h) (s (at i))
-  | inr h ↦ rw (getD-past (m′ .entries) i Missing h) tt
-]
+sound-passed m m′ at a same s = sound-from m′ (λ i h. rw (a, same i h) (s (at i)))
 
 -- symbols that stand in entries of a layer stand at their places below
 pub laid-passed : {R : Type 0} (view : Meaning → Meaning) (rest : Meaning → R) (place at : ℕ → ℕ) → ((x : Meaning) (j : ℕ) → j < count-of (view x) → Shows view rest x j (place j)) → (m : Meaning) (i : ℕ) (vs : List ℕ) → ((j : ℕ) → j < i + length vs → at j < count-of (view m)) → (view (laid (λ j. place (at j)) m i vs) ≡ laid at (view m) i vs) × (rest (laid (λ j. place (at j)) m i vs) ≡ rest m)

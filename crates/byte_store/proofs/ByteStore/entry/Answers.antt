@@ -7,7 +7,4 @@ pub index-self-i : need.index-self-i
 index-self-i c = omega (arith, byte-count (c .args .self .now .bytes .now))
 
 pub returns : need.returns
-returns c =
-    let bs = c .args .self .now .bytes .now in
-    let i = c .args .i in
-    c .entry-of .ensures ∙ sym (byte-at bs i (c .pre))
+returns c = c .of-code .ensures ∙ sym (byte-at (c .args .self .now .bytes .now) (c .args .i) (c .pre))

@@ -3,7 +3,8 @@ use native.Mathlib.Omega.{arith}
 use lib.ListN.{set}
 use Rattle.cells.specs.Stores.{with-entry}
 use Rattle.byte_store.specs.ByteStores.{byte-meaning, entry-byte}
-use Rattle.byte_store.proofs.ByteCells.{byte-count, byte-again, byte-set, byte-rest}
+use Rattle.cells.proofs.Codes.{code-again}
+use Rattle.byte_store.proofs.ByteCells.{byte-count, byte-set, byte-rest}
 use Rattle.byte_store.proofs.ByteStore.write.Needs as need
 
 pub index-self-i : need.index-self-i
@@ -15,7 +16,7 @@ returns c =
     let i = c .args .i in
     let e = c .args .entry in
     record {
-      done = ap (λ b. byte-meaning (set bs i b)) (c .code-of .ensures) ∙ byte-set bs i (entry-byte e) ∙ ap (with-entry (byte-meaning bs) i) (byte-again e (c .pre .1));
+      done = ap (λ b. byte-meaning (set bs i b)) (c .code .ensures) ∙ byte-set bs i (entry-byte e) ∙ ap (with-entry (byte-meaning bs) i) (code-again 255 e (c .pre .1));
       kept = byte-rest bs i _ (c .pre .0);
       lent = refl;
     }

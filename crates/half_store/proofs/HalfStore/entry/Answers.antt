@@ -8,7 +8,4 @@ pub index-self-i : need.index-self-i
 index-self-i c = omega (arith, half-count (c .args .self .now .bytes .now))
 
 pub returns : need.returns
-returns c =
-    let bs = c .args .self .now .bytes .now in
-    let i = c .args .i in
-    c .entry-of .ensures ∙ sym (half-at bs i (c .pre) ∙ ap half-entry (sym (c .half-of .ensures)))
+returns c = c .of-code .ensures ∙ ap half-entry (c .half-of .ensures) ∙ sym (half-at (c .args .self .now .bytes .now) (c .args .i) (c .pre))

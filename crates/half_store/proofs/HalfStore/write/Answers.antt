@@ -4,7 +4,8 @@ use native.Mathlib.Omega.{arith}
 use lib.ListN.{getD, set}
 use Rattle.cells.specs.Stores.{with-entry}
 use Rattle.half_store.specs.HalfStores.{half-meaning, entry-half, with-half}
-use Rattle.half_store.proofs.HalfCells.{half-count, half-again, entry-half-below, half-set, half-rest}
+use Rattle.cells.proofs.Codes.{code-again, code-most}
+use Rattle.half_store.proofs.HalfCells.{half-count, half-set, half-rest}
 use Rattle.half_store.proofs.HalfStore.write.Needs as need
 
 pub index-self-i : need.index-self-i
@@ -19,8 +20,8 @@ returns c =
     let i = c .args .i in
     let e = c .args .entry in
     record {
-      done = ap (λ b. half-meaning (set bs (i / 2) b)) (c .with-half .ensures ∙ ap (with-half (getD bs (i / 2) 0) (i % 2)) (c .code-of .ensures))
-          ∙ half-set bs i (entry-half e) (c .pre .0) (entry-half-below e (c .pre .1)) ∙ ap (with-entry (half-meaning bs) i) (half-again e (c .pre .1));
+      done = ap (λ b. half-meaning (set bs (i / 2) b)) (c .with-half .ensures ∙ ap (with-half (getD bs (i / 2) 0) (i % 2)) (c .code .ensures))
+          ∙ half-set bs i (entry-half e) (c .pre .0) (omega (arith, code-most 15 e (c .pre .1))) ∙ ap (with-entry (half-meaning bs) i) (code-again 15 e (c .pre .1));
       kept = half-rest bs i _ (c .pre .0);
       lent = refl;
     }
