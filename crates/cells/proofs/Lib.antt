@@ -1,0 +1,4 @@
+pub mod Cases
+pub mod Codes
+pub mod Laying
+pub mod Lenders

@@ -1,0 +1,5 @@
+pub mod Bytes
+pub mod Codes
+pub mod Puts
+pub mod Refusals
+pub mod Stores

@@ -1,0 +1,3 @@
+pub mod Divisors
+pub mod PairAnswers
+pub mod Strides
