@@ -10,7 +10,7 @@ use Rattle.std.specs.declared.option.Option.the-variants.{Some, None}
 use Rattle.std.proofs.shelf.Tests.{cases-lt, lt-ltb, le-ltb}
 use Rattle.field.specs.Algebra.{Algebra, Lawful, inverse, ops, power}
 use Rattle.field.proofs.Ring.{mul-zero, no-zero-divisor}
-use Rattle.field.proofs.Elements.{Elem, elems, field-of, same-code, zero-in}
+use Rattle.field.proofs.Elements.{Elem, elems, field-of, same-code, zero-in, power-in}
 
 module _ {F : Algebra} (L : Lawful F) where
   pub times-zero : (a : ℕ) → F .times a 0 ≡ 0
@@ -81,3 +81,7 @@ module _ {F : Algebra} (L : Lawful F) where
       let w : b ≡ 0 = ap (λ (x : Elem (F .size)). x .0) e in
       omega arith) in
       omega arith
+
+  pub power-positive : (x e : ℕ) → 0 < x → x < F .size → 0 < power (ops F) x e
+  power-positive x zero p h = omega arith
+  power-positive x (suc e) p h = times-positive (power (ops F) x e) x (power-positive x e p h) (power-in L x e) p h

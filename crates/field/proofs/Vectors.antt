@@ -55,7 +55,7 @@ module _ {F : Algebra} (L : Lawful F) where
   scale-lower k [] = refl
   scale-lower k (x ∷ xs) = ap (λ w. F .times (k .0) (x .0) ∷ w) (scale-lower k xs)
 
-  add-lower : (w v : List (Elem (F .size))) → lower (add (elems L) w v) ≡ add (ops F) (lower w) (lower v)
+  pub add-lower : (w v : List (Elem (F .size))) → lower (add (elems L) w v) ≡ add (ops F) (lower w) (lower v)
   add-lower [] v = refl
   add-lower (x ∷ w) [] = refl
   add-lower (x ∷ w) (y ∷ v) = ap (λ r. F .plus (x .0) (y .0) ∷ r) (add-lower w v)

@@ -11,7 +11,7 @@ use Rattle.std.specs.shelf.Lists.{All}
 use Rattle.std.specs.declared.option.Option.{Option}
 use Rattle.std.specs.declared.option.Option.the-variants.{Some, None}
 use Rattle.std.proofs.shelf.Lists.{at-drop-more, at-drop-all, ext-getD, getD-drop, length-drop, length-replicate, getD-replicate}
-use Rattle.std.proofs.shelf.Tests.{cases-bool, cond-true, cond-false, or-parts, leb-false, and-cases, not-false, ltb-false, eqb-true, cases-lt, lt-ltb}
+use Rattle.std.proofs.shelf.Tests.{cases-bool, cond-true, cond-false, or-parts, or-from, leb-false, lt-leb, le-ltb, and-cases, and-left, and-right, not-false, not-from-true, ltb-false, eqb-true, eq-eqb, cases-lt}
 use Rattle.space.specs.Places.{Point}
 use Rattle.space.specs.Points.{bad-coordinate, first-bad}
 
@@ -62,3 +62,29 @@ module _ (q m : ℕ) where
         codes = a;
         past = ext-getD 0 (drop (suc m) p) (replicate (3 - m) 0) (omega arith) (λ k h. getD-drop (suc m) p k 0 ∙ z (suc m + k) (omega arith) ∙ sym (getD-replicate (3 - m) k 0 0 (omega arith)));
       }
+
+  -- and a point has none that is bad
+  fine : (i x : ℕ) → x < q → (m < i → x ≡ 0) → bad-coordinate q m i x ≡ false
+  fine i x h z =
+      or-from (leb q x) (ltb m i && not (eqb x 0)) (lt-leb q x h)
+      (⊎-elim
+      (λ (l : m < i). and-right (ltb m i) (not (eqb x 0)) (not-from-true (eqb x 0) (eq-eqb x 0 (z l))))
+      (λ (l : i ≤ m). and-left (ltb m i) (not (eqb x 0)) (le-ltb m i l))
+      (cases-lt m i))
+
+  fine-all : (i : ℕ) (xs : List ℕ) → All (λ x. x < q) xs → ((k : ℕ) → m < i + k → getD xs k 0 ≡ 0) → first-bad q m i xs ≡ None
+  fine-all i [] a z = refl
+  fine-all i (x ∷ xs) a z =
+      cond-false (bad-coordinate q m i x) _ _ (fine i x (a .0) (λ h. z 0 (omega arith)))
+      ∙ fine-all (suc i) xs (a .1) (λ k h. z (suc k) (omega arith))
+
+  zeros-past : (n k : ℕ) → _≡_ {A = ℕ} (getD (replicate n 0) k 0) 0
+  zeros-past zero k = refl
+  zeros-past (suc n) zero = refl
+  zeros-past (suc n) (suc k) = zeros-past n k
+
+  pub none-of-point : (p : List ℕ) → Point q m p → first-bad q m 0 p ≡ None
+  none-of-point p point = fine-all 0 p (point .codes) (λ k h.
+      let e : suc m + (k - suc m) ≡ k = omega arith in
+      let d = getD-drop (suc m) p (k - suc m) 0 in
+      ap (λ j. getD p j 0) (sym e) ∙ sym d ∙ ap (λ l. getD l (k - suc m) 0) (point .past) ∙ zeros-past (3 - m) (k - suc m))

@@ -20,6 +20,7 @@ pub use faults::PointFaultPartialEq;
 pub use faults::ShapeFault;
 pub use faults::ShapeFaultDebug;
 pub use faults::ShapeFaultPartialEq;
+pub use places::divisor_of;
 pub use points::Location;
 pub use points::NormalForm;
 pub use shape::Shape;

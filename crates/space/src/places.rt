@@ -76,8 +76,8 @@ pub(crate) fn unrank(shape: Shape, place: usize) -> [u8; 4]
     spelled(shape, first, number)
 }
 
-// The first coordinate that is not 0.
-pub(crate) fn divisor_of(p: [u8; 4]) -> u8
+// The first coordinate that is not 0; 0 where every one is.
+pub fn divisor_of(p: [u8; 4]) -> u8
     ensures { λ r. ⌜ r ≡ divisor p ⌝ }
 {
     let [a, b, c, d] = p;

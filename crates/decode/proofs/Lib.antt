@@ -1,0 +1,10 @@
+pub mod Scalars
+pub mod Places
+pub mod Codes
+pub mod Picked
+pub mod Steps
+pub mod Start
+pub mod Locate
+pub mod Complete
+pub mod OnePoint
+pub mod Final

@@ -1,0 +1,5 @@
+pub mod Width
+pub mod Coefficients
+pub mod Near
+pub mod Pairs
+pub mod Fitted
