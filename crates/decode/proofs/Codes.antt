@@ -70,8 +70,16 @@ module _ {F : Algebra} (lawful : Lawful F) where
       let s = ap (λ w. w .0) (eval-add (field-of lawful) (scale E P X) (scale E R Y) T) in
       let u = ap (λ w. w .0) (eval-scale (field-of lawful) P X T) in
       let v = ap (λ w. w .0) (eval-scale (field-of lawful) R Y T) in
-      cc (eval-lower lawful (add E (scale E P X) (scale E R Y)) T, add-lower lawful (scale E P X) (scale E R Y), scale-lower lawful P X, scale-lower lawful R Y,
-        lower-lift q xs hx, lower-lift q ys hy, eval-lift lawful xs hx T, eval-lift lawful ys hy T)
+      cc (
+        eval-lower lawful (add E (scale E P X) (scale E R Y)) T,
+        add-lower lawful (scale E P X) (scale E R Y),
+        scale-lower lawful P X,
+        scale-lower lawful R Y,
+        lower-lift q xs hx,
+        lower-lift q ys hy,
+        eval-lift lawful xs hx T,
+        eval-lift lawful ys hy T,
+      )
 
   pub eval-raise : (u : ℕ) (xs : List ℕ) (t : ℕ) → u < F .size → t < F .size → All (λ c. c < F .size) xs → last 0 xs ≡ 0
       → eval (ops F) (raise (ops F) (F .minus u) 0 xs) t ≡ F .times (F .plus (F .minus u) t) (eval (ops F) xs t)
@@ -105,7 +113,7 @@ module _ {F : Algebra} (lawful : Lawful F) where
 
   pub discrepancies-meet : (z n m e f : ℕ) → z < F .size → n < F .size → m < F .size → e < F .size → f < F .size
       → F .plus (F .times (F .plus n (F .minus (F .times z e))) m) (F .times (F .minus (F .plus m (F .minus (F .times z f)))) n)
-        ≡ F .times z (F .plus (F .times (F .plus n (F .minus (F .times z e))) f) (F .times (F .minus (F .plus m (F .minus (F .times z f)))) e))
+      ≡ F .times z (F .plus (F .times (F .plus n (F .minus (F .times z e))) f) (F .times (F .minus (F .plus m (F .minus (F .times z f)))) e))
   discrepancies-meet z n m e f hz hn hm he hf =
       ap (λ w. w .0) (scalar.discrepancies-meet (field-of lawful) (z, hz) (n, hn) (m, hm) (e, he) (f, hf))
 
@@ -120,7 +128,7 @@ module _ {F : Algebra} (lawful : Lawful F) where
   pub factor-pos : (u t : ℕ) → u < F .size → t < F .size → (t ≡ u → ⊥) → 0 < F .plus (F .minus u) t
   factor-pos u t hu ht n =
       pos-from (F .plus (F .minus u) t) (λ e.
-        differ (field-of lawful) (u, hu) (t, ht) (λ s. n (ap (λ w. w .0) s)) (same-code (lawful .plus-comm t (F .minus u) ∙ e)))
+      differ (field-of lawful) (u, hu) (t, ht) (λ s. n (ap (λ w. w .0) s)) (same-code (lawful .plus-comm t (F .minus u) ∙ e)))
 
   pub cancel-times : (x y z : ℕ) → x < F .size → y < F .size → z < F .size → (x ≡ 0 → ⊥) → F .times y x ≡ F .times z x → y ≡ z
   cancel-times x y z hx hy hz n h =

@@ -39,16 +39,16 @@ module _ {F : Algebra} (lawful : Lawful F) where
   all-gone w us cs in-us in-cs n l z h k =
       let cut = take (suc w) cs in
       let zeros : All (λ c. c ≡ 0) cut =
-        few-roots lawful us cut in-us (all-take (λ c. c < F .size) (suc w) cs in-cs) (simp length-take (omega arith)) n
-          (all-weaker (λ u. (u < F .size) × (eval (ops F) cs u ≡ 0)) (λ u. eval (ops F) cut u ≡ 0)
-            (λ u e. eval-cut (suc w) cs u (e .0) (λ j i. z j (omega arith)) ∙ e .1) us (both (λ u. u < F .size) (λ u. eval (ops F) cs u ≡ 0) us in-us h)) in
+      few-roots lawful us cut in-us (all-take (λ c. c < F .size) (suc w) cs in-cs) (simp length-take (omega arith)) n
+      (all-weaker (λ u. (u < F .size) × (eval (ops F) cs u ≡ 0)) (λ u. eval (ops F) cut u ≡ 0)
+      (λ u e. eval-cut (suc w) cs u (e .0) (λ j i. z j (omega arith)) ∙ e .1) us (both (λ u. u < F .size) (λ u. eval (ops F) cs u ≡ 0) us in-us h)) in
       ⊎-elim
-        (λ (i : k < suc w). sym (getD-take (suc w) cs k 0 i) ∙ ⊎-elim
-          (λ (j : k < length cut). all-getD (λ c. c ≡ 0) cut k 0 j zeros)
-          (λ (j : length cut ≤ k). getD-past cut k 0 j)
-          (cases-lt k (length cut)))
-        (λ (i : suc w ≤ k). z k (omega arith))
-        (cases-lt k (suc w))
+      (λ (i : k < suc w). sym (getD-take (suc w) cs k 0 i) ∙ ⊎-elim
+      (λ (j : k < length cut). all-getD (λ c. c ≡ 0) cut k 0 j zeros)
+      (λ (j : length cut ≤ k). getD-past cut k 0 j)
+      (cases-lt k (length cut)))
+      (λ (i : suc w ≤ k). z k (omega arith))
+      (cases-lt k (suc w))
     where
       both : (P Q : ℕ → Type 0) (us : List ℕ) → All P us → All Q us → All (λ u. P u × Q u) us
       both P Q [] a b = tt
@@ -79,8 +79,8 @@ module _ {F : Algebra} (lawful : Lawful F) where
       let lift-N : (x : Elem q) → eval (elems L) NN x .0 ≡ eval (ops F) ns (x .0) = λ x. eval-lift L N in-N x ∙ at-N (x .0) (x .1) in
       let lift-E : (x : Elem q) → eval (elems L) EE x .0 ≡ eval (ops F) es (x .0) = λ x. eval-lift L E in-E x ∙ at-E (x .0) (x .1) in
       let all = all-lift (λ u. eval (ops F) ns u ≡ F .times (eval (ops F) gs u) (eval (ops F) es u))
-        (λ x. eval (elems L) NN x ≡ elems L .times (eval (elems L) GG x) (eval (elems L) EE x))
-        (λ x e. same-code (lift-N x ∙ e ∙ sym (ap₂ (F .times) (eval-lift L gs in-gs x) (lift-E x)))) us in-us h in
+      (λ x. eval (elems L) NN x ≡ elems L .times (eval (elems L) GG x) (eval (elems L) EE x))
+      (λ x e. same-code (lift-N x ∙ e ∙ sym (ap₂ (F .times) (eval-lift L gs in-gs x) (lift-E x)))) us in-us h in
       let a = length-lift q us in-us in
       let b : length NN ≤ suc w = omega (arith, length-lift q N in-N, length-take (suc w) ns) in
       let c : length GG ≡ suc d = length-lift q gs in-gs ∙ g in
@@ -105,19 +105,19 @@ module _ {F : Algebra} (lawful : Lawful F) (d : ℕ) (ps : List (ℕ × ℕ)) (o
   agreed-at : All (λ u. eval (ops F) ns u ≡ F .times (eval (ops F) g u) (eval (ops F) es u)) (picked (through (ops F) g) ps)
   agreed-at =
       picked-all (through (ops F) g) (λ u. eval (ops F) ns u ≡ F .times (eval (ops F) g u) (eval (ops F) es u)) (Meets F ns es)
-        (λ p m e. m ∙ ap (λ z. F .times z (eval (ops F) es (p .0))) (sym (eqb-true (eval (ops F) g (p .0)) (p .1) e))) ps meets
+      (λ p m e. m ∙ ap (λ z. F .times z (eval (ops F) es (p .0))) (sym (eqb-true (eval (ops F) g (p .0)) (p .1) e))) ps meets
 
   everywhere : (t : ℕ) → t < F .size → eval (ops F) ns t ≡ F .times (eval (ops F) g t) (eval (ops F) es t)
   everywhere =
       located lawful d w (picked (through (ops F) g) ps) ns g es fit agreed-in (near .small) (picked-apart (through (ops F) g) ps (ok .apart)) agreed-many d-under
-        (near .long) e-long agreed-at
+      (near .long) e-long agreed-at
 
   -- g comes to the value wherever e does not vanish
   pub exact : (p : ℕ × ℕ) → (p .0 < F .size) × (p .1 < F .size) → Meets F ns es p → usable (ops F) es p ≡ true → eval (ops F) g (p .0) ≡ p .1
   exact p h m e =
       sym (cancel-times lawful (eval (ops F) es (p .0)) (p .1) (eval (ops F) g (p .0)) (eval-in lawful es (p .0)) (h .1) (eval-in lawful g (p .0))
-        (eqb-false (eval (ops F) es (p .0)) 0 (not-true (eqb (eval (ops F) es (p .0)) 0) e))
-        (sym m ∙ everywhere (p .0) (h .0)))
+      (eqb-false (eval (ops F) es (p .0)) 0 (not-true (eqb (eval (ops F) es (p .0)) 0) e))
+      (sym m ∙ everywhere (p .0) (h .0)))
 
   -- e vanishes at few of the points
   pub enough : (((k : ℕ) → getD es k 0 ≡ 0) → ((k : ℕ) → getD ns k 0 ≡ 0) → ⊥) → d < length (picked (usable (ops F) es) ps)
@@ -125,18 +125,18 @@ module _ {F : Algebra} (lawful : Lawful F) (d : ℕ) (ps : List (ℕ × ℕ)) (o
       let gone : ℕ × ℕ → Bool = λ p. eqb (eval (ops F) es (p .0)) 0 in
       let count = picked-count gone ps in
       ⊎-elim
-        (λ (many : w - d < length (picked gone ps)).
-          let none-e : (k : ℕ) → getD es k 0 ≡ 0 =
-            all-gone lawful (w - d) (picked gone ps) es
-              (picked-all gone (λ u. u < F .size) (λ p. (p .0 < F .size) × (p .1 < F .size)) (λ p h e. h .0) ps (ok .small))
-              (fit .e-in) (picked-apart gone ps (ok .apart)) many (λ k h. fit .e-past k (omega arith))
-              (picked-all gone (λ u. eval (ops F) es u ≡ 0) (λ p. (p .0 < F .size) × (p .1 < F .size)) (λ p h e. eqb-true (eval (ops F) es (p .0)) 0 e) ps (ok .small)) in
-          let flat : (t : ℕ) → t < F .size → eval (ops F) es t ≡ 0 = λ t h. sym (eval-cut lawful 0 es t h (λ k i. none-e k)) in
-          let none-n : (k : ℕ) → getD ns k 0 ≡ 0 =
-            all-gone lawful w (picked (through (ops F) g) ps) ns agreed-in (fit .n-in) (picked-apart (through (ops F) g) ps (ok .apart)) agreed-many (fit .n-past)
-              (all-weaker (λ u. u < F .size) (λ u. eval (ops F) ns u ≡ 0)
-                (λ u h. everywhere u h ∙ ap (F .times (eval (ops F) g u)) (flat u h) ∙ times-zero lawful (eval (ops F) g u))
-                (picked (through (ops F) g) ps) agreed-in) in
-          absurd (some none-e none-n))
-        (λ (few : length (picked gone ps) ≤ w - d). omega (arith, count))
-        (cases-lt (w - d) (length (picked gone ps)))
+      (λ (many : w - d < length (picked gone ps)).
+      let none-e : (k : ℕ) → getD es k 0 ≡ 0 =
+      all-gone lawful (w - d) (picked gone ps) es
+      (picked-all gone (λ u. u < F .size) (λ p. (p .0 < F .size) × (p .1 < F .size)) (λ p h e. h .0) ps (ok .small))
+      (fit .e-in) (picked-apart gone ps (ok .apart)) many (λ k h. fit .e-past k (omega arith))
+      (picked-all gone (λ u. eval (ops F) es u ≡ 0) (λ p. (p .0 < F .size) × (p .1 < F .size)) (λ p h e. eqb-true (eval (ops F) es (p .0)) 0 e) ps (ok .small)) in
+      let flat : (t : ℕ) → t < F .size → eval (ops F) es t ≡ 0 = λ t h. sym (eval-cut lawful 0 es t h (λ k i. none-e k)) in
+      let none-n : (k : ℕ) → getD ns k 0 ≡ 0 =
+      all-gone lawful w (picked (through (ops F) g) ps) ns agreed-in (fit .n-in) (picked-apart (through (ops F) g) ps (ok .apart)) agreed-many (fit .n-past)
+      (all-weaker (λ u. u < F .size) (λ u. eval (ops F) ns u ≡ 0)
+      (λ u h. everywhere u h ∙ ap (F .times (eval (ops F) g u)) (flat u h) ∙ times-zero lawful (eval (ops F) g u))
+      (picked (through (ops F) g) ps) agreed-in) in
+      absurd (some none-e none-n))
+      (λ (few : length (picked gone ps) ≤ w - d). omega (arith, count))
+      (cases-lt (w - d) (length (picked gone ps)))

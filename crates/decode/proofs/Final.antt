@@ -43,7 +43,7 @@ module _ {F : Algebra} (lawful : Lawful F) (d : ℕ) (ps : List (ℕ × ℕ)) (o
   cut-misses : (g : List ℕ) → Through F (x .e) d ps g → misses (ops F) (take (suc d) g) ps ≡ misses (ops F) g ps
   cut-misses g t =
       misses-same (ops F) (take (suc d) g) g ps
-        (all-weaker (λ p. (p .0 < F .size) × (p .1 < F .size)) (λ p. eval (ops F) (take (suc d) g) (p .0) ≡ eval (ops F) g (p .0)) (λ p h. cut-at g t (p .0) (h .0)) ps (ok .small))
+      (all-weaker (λ p. (p .0 < F .size) × (p .1 < F .size)) (λ p. eval (ops F) (take (suc d) g) (p .0) ≡ eval (ops F) g (p .0)) (λ p h. cut-at g t (p .0) (h .0)) ps (ok .small))
 
   cut-long : (g : List ℕ) → Through F (x .e) d ps g → length (take (suc d) g) ≡ suc d
   cut-long g t = length-take-le (suc d) g (omega (arith, t .long))
@@ -56,20 +56,20 @@ module _ {F : Algebra} (lawful : Lawful F) (d : ℕ) (ps : List (ℕ × ℕ)) (o
       let in-qs : All Q qs = all-take Q (t .upto) ps (ok .small) in
       let R : ℕ × ℕ → Type 0 = λ p. f p ≡ true → eval (ops F) (take (suc d) g) (p .0) ≡ eval (ops F) h (p .0) in
       let same : All R qs =
-        all-from-getD R qs (0, 0) (λ j l.
-          let l′ : j < t .upto = omega (arith, length-take (t .upto) ps) in
-          let l″ : j < length ps = omega (arith, t .within) in
-          rw (getD-take (t .upto) ps j (0, 0) l′)
-            (λ e.
-              let p = getD ps j (0, 0) in
-              let hp = all-getD Q ps j (0, 0) l″ (ok .small) in
-              cut-at g t (p .0) (hp .0) ∙ t .at j l′ e
-              ∙ sym (exact lawful d ps ok ((length ps + d) / 2) (x .n) (x .e) (s .fit) (s .meets) (omega arith) (omega arith) r-over (omega (arith, s .e-long)) h near p hp
-                  (all-getD (Meets F (x .n) (x .e)) ps j (0, 0) l″ (s .meets)) e))) in
+      all-from-getD R qs (0, 0) (λ j l.
+      let l′ : j < t .upto = omega (arith, length-take (t .upto) ps) in
+      let l″ : j < length ps = omega (arith, t .within) in
+      rw (getD-take (t .upto) ps j (0, 0) l′)
+      (λ e.
+      let p = getD ps j (0, 0) in
+      let hp = all-getD Q ps j (0, 0) l″ (ok .small) in
+      cut-at g t (p .0) (hp .0) ∙ t .at j l′ e
+      ∙ sym (exact lawful d ps ok ((length ps + d) / 2) (x .n) (x .e) (s .fit) (s .meets) (omega arith) (omega arith) r-over (omega (arith, s .e-long)) h near p hp
+      (all-getD (Meets F (x .n) (x .e)) ps j (0, 0) l″ (s .meets)) e))) in
       unique-codes lawful (picked f qs) (take (suc d) g) h
-        (picked-all f (λ u. u < F .size) Q (λ p k _. k .0) qs in-qs) (all-take (λ c. c < F .size) (suc d) g (t .small)) (near .small)
-        (cut-long g t ∙ sym (t .many)) (near .long ∙ sym (t .many)) (picked-apart f qs (apart-take (t .upto) ps (ok .apart)))
-        (picked-all f (λ u. eval (ops F) (take (suc d) g) u ≡ eval (ops F) h u) R (λ p k e. k e) qs same)
+      (picked-all f (λ u. u < F .size) Q (λ p k _. k .0) qs in-qs) (all-take (λ c. c < F .size) (suc d) g (t .small)) (near .small)
+      (cut-long g t ∙ sym (t .many)) (near .long ∙ sym (t .many)) (picked-apart f qs (apart-take (t .upto) ps (ok .apart)))
+      (picked-all f (λ u. eval (ops F) (take (suc d) g) u ≡ eval (ops F) h u) R (λ p k e. k e) qs same)
 
   pub found-near : (g : List ℕ) → Through F (x .e) d ps g → misses (ops F) g ps ≤ (length ps - d - 1) / 2 → Found F d ps g
   found-near g t h = record {

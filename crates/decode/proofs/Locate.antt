@@ -37,9 +37,9 @@ module _ {K : Type 0} (o : Ops K) where
 
 module _ {K : Type 0} {o : Ops K} (L : IsField o) where
   open Ops o using (zero as 𝟘, one as 𝟙, plus as _⊕_, times as _⊗_, minus as neg)
+
   infixl 60 _⊕_
   infixl 70 _⊗_
-
   grouped : (c t x y : K) → c ⊗ y ⊕ (𝟘 ⊕ t ⊗ (x ⊗ y)) ≡ (c ⊕ t ⊗ x) ⊗ y
   grouped c t x y = simp (ring, L)
 
@@ -67,10 +67,10 @@ module _ {K : Type 0} {o : Ops K} (L : IsField o) where
   locate rs ns gs es n l i m h t =
       let ds = add o ns (scale o (neg 𝟙) (mul o gs es)) in
       let at : (x : K) → eval o ds x ≡ eval o ns x ⊕ neg 𝟙 ⊗ (eval o gs x ⊗ eval o es x) =
-        λ x. eval-add L ns (scale o (neg 𝟙) (mul o gs es)) x ∙ rw (eval-scale L (neg 𝟙) (mul o gs es) x, eval-mul gs es x) refl in
+      λ x. eval-add L ns (scale o (neg 𝟙) (mul o gs es)) x ∙ rw (eval-scale L (neg 𝟙) (mul o gs es) x, eval-mul gs es x) refl in
       let long : length ds ≤ length rs =
-        length-add-under o (length rs) ns (scale o (neg 𝟙) (mul o gs es)) l
-          (omega (arith, length-scale o (neg 𝟙) (mul o gs es), length-mul o (length rs) gs es i m)) in
+      length-add-under o (length rs) ns (scale o (neg 𝟙) (mul o gs es)) l
+      (omega (arith, length-scale o (neg 𝟙) (mul o gs es), length-mul o (length rs) gs es i m)) in
       let zeros = all-weaker (λ r. eval o ns r ≡ eval o gs r ⊗ eval o es r) (λ r. eval o ds r ≡ 𝟘)
-        (λ x e. at x ∙ rw e (neg-one L (eval o gs x ⊗ eval o es x))) rs h in
+      (λ x e. at x ∙ rw e (neg-one L (eval o gs x ⊗ eval o es x))) rs h in
       same L (eval o ns t) (eval o gs t ⊗ eval o es t) (sym (at t) ∙ vanish rs ds long n zeros t)

@@ -44,11 +44,11 @@ module _ {F : Algebra} (lawful : Lawful F) where
       p-past = s .p-past;
       m-past = s .m-past;
       at = below-more
-        (λ j. usable (ops F) es (getD ps j (0, 0)) ≡ true → (eval (ops F) (f .p) (getD ps j (0, 0) .0) ≡ getD ps j (0, 0) .1) × (eval (ops F) (f .m) (getD ps j (0, 0) .0) ≡ 0))
-        i (s .at) (λ taken. absurd (let z : _≡_ {A = ℕ} 0 1 = cc in omega arith));
+          (λ j. usable (ops F) es (getD ps j (0, 0)) ≡ true → (eval (ops F) (f .p) (getD ps j (0, 0) .0) ≡ getD ps j (0, 0) .1) × (eval (ops F) (f .m) (getD ps j (0, 0) .0) ≡ 0))
+          i (s .at) (λ taken. absurd (let z : _≡_ {A = ℕ} 0 1 = cc in omega arith));
       ahead = λ j h l. s .ahead j (omega arith) l;
       counts = picked-more (usable (ops F) es) ps i (0, 0) here
-        ∙ ap (λ b. length (picked (usable (ops F) es) (take i ps)) + cond b 1 0) left ∙ add-zero _ ∙ s .counts;
+          ∙ ap (λ b. length (picked (usable (ops F) es) (take i ps)) + cond b 1 0) left ∙ add-zero _ ∙ s .counts;
     }
 
     pub more : f .count < top → usable (ops F) es (getD ps i (0, 0)) ≡ true → Fitting F es ps (i + 1) (fitted-of F f (getD ps i (0, 0)))
@@ -56,7 +56,7 @@ module _ {F : Algebra} (lawful : Lawful F) where
         let u = getD ps i (0, 0) .0 in
         let z = getD ps i (0, 0) .1 in
         let point-in : (j : ℕ) → j < length ps → (getD ps j (0, 0) .0 < F .size) × (getD ps j (0, 0) .1 < F .size) =
-          λ j l. all-getD (λ p. (p .0 < F .size) × (p .1 < F .size)) ps j (0, 0) l (ok .small) in
+        λ j l. all-getD (λ p. (p .0 < F .size) × (p .1 < F .size)) ps j (0, 0) l (ok .small) in
         let hu : u < F .size = point-in i here .0 in
         let hz : z < F .size = point-in i here .1 in
         let c = factor-of F f (getD ps i (0, 0)) in
@@ -66,9 +66,9 @@ module _ {F : Algebra} (lawful : Lawful F) where
         let long : length (f .p) ≡ length (f .m) = s .p-long ∙ sym (s .m-long) in
         let last-m : last 0 (f .m) ≡ 0 = last-getD 0 (f .m) top (s .m-long) ∙ s .m-past top small in
         let at-m : (t : ℕ) → t < F .size → eval (ops F) (raise (ops F) a 0 (f .m)) t ≡ F .times (F .plus a t) (eval (ops F) (f .m) t) =
-          λ t ht. eval-raise lawful u (f .m) t hu ht (s .m-in) last-m in
+        λ t ht. eval-raise lawful u (f .m) t hu ht (s .m-in) last-m in
         let at-p : (t : ℕ) → t < F .size → eval (ops F) (mix (ops F) 1 (f .p) c (f .m)) t ≡ F .plus (F .times 1 (eval (ops F) (f .p) t)) (F .times c (eval (ops F) (f .m) t)) =
-          λ t ht. eval-mix lawful 1 (f .p) c (f .m) t (lawful .one-in) hc ht (s .p-in) (s .m-in) in
+        λ t ht. eval-mix lawful 1 (f .p) c (f .m) t (lawful .one-in) hc ht (s .p-in) (s .m-in) in
         let y = eval (ops F) (f .m) u in
         let hy : 0 < y = s .ahead i (omega arith) here in
         record {
@@ -79,28 +79,30 @@ module _ {F : Algebra} (lawful : Lawful F) where
           p-past = λ k h. mix-zero lawful 1 (f .p) c (f .m) k (lawful .one-in) hc long (s .p-past k (omega arith)) (s .m-past k (omega arith));
           m-past = past a ha;
           at = below-more
-            (λ j. usable (ops F) es (getD ps j (0, 0)) ≡ true
+              (λ j. usable (ops F) es (getD ps j (0, 0)) ≡ true
               → (eval (ops F) (mix (ops F) 1 (f .p) c (f .m)) (getD ps j (0, 0) .0) ≡ getD ps j (0, 0) .1) × (eval (ops F) (raise (ops F) a 0 (f .m)) (getD ps j (0, 0) .0) ≡ 0))
-            i
-            (λ j l w.
+              i
+              (λ j l w.
               let t = getD ps j (0, 0) .0 in
               let ht : t < F .size = point-in j (omega arith) .0 in
-              let (e, g) = s .at j l w in
-              (at-p t ht
-                ∙ ap₂ (F .plus) (one-times lawful (eval (ops F) (f .p) t) (eval-in lawful (f .p) t)) (ap (F .times c) g ∙ times-zero lawful c)
-                ∙ lawful .plus-zero _ (eval-in lawful (f .p) t) ∙ e,
-               at-m t ht ∙ ap (F .times (F .plus a t)) g ∙ times-zero lawful (F .plus a t)))
-            (λ _.
-              (at-p u hu
-                ∙ ap (λ v. F .plus (F .times 1 (eval (ops F) (f .p) u)) (F .times (F .times (F .plus z (F .minus (eval (ops F) (f .p) u))) v) y)) (inverse-is y hy (eval-in lawful (f .m) u))
-                ∙ refined lawful (eval (ops F) (f .p) u) z y (eval-in lawful (f .p) u) hz (eval-in lawful (f .m) u) hy,
-               at-m u hu ∙ ap (λ v. F .times v y) (factor-zero lawful u hu) ∙ lawful .times-comm 0 y ∙ times-zero lawful y));
+              let (e, g) = s .at j l w in (
+                at-p t ht
+                    ∙ ap₂ (F .plus) (one-times lawful (eval (ops F) (f .p) t) (eval-in lawful (f .p) t)) (ap (F .times c) g ∙ times-zero lawful c)
+                    ∙ lawful .plus-zero _ (eval-in lawful (f .p) t) ∙ e,
+                at-m t ht ∙ ap (F .times (F .plus a t)) g ∙ times-zero lawful (F .plus a t),
+              ))
+              (λ _. (
+                at-p u hu
+                    ∙ ap (λ v. F .plus (F .times 1 (eval (ops F) (f .p) u)) (F .times (F .times (F .plus z (F .minus (eval (ops F) (f .p) u))) v) y)) (inverse-is y hy (eval-in lawful (f .m) u))
+                    ∙ refined lawful (eval (ops F) (f .p) u) z y (eval-in lawful (f .p) u) hz (eval-in lawful (f .m) u) hy,
+                at-m u hu ∙ ap (λ v. F .times v y) (factor-zero lawful u hu) ∙ lawful .times-comm 0 y ∙ times-zero lawful y,
+              ));
           ahead = λ j l h.
-            let t = getD ps j (0, 0) .0 in
-            let ht : t < F .size = point-in j h .0 in
-            rw (at-m t ht) (times-positive lawful (F .plus a t) (eval (ops F) (f .m) t) (factor-pos lawful u t hu ht (apart-at ps i j (0, 0) (ok .apart) (omega arith) h)) (lawful .plus-in a t) (s .ahead j (omega arith) h) (eval-in lawful (f .m) t));
+              let t = getD ps j (0, 0) .0 in
+              let ht : t < F .size = point-in j h .0 in
+              rw (at-m t ht) (times-positive lawful (F .plus a t) (eval (ops F) (f .m) t) (factor-pos lawful u t hu ht (apart-at ps i j (0, 0) (ok .apart) (omega arith) h)) (lawful .plus-in a t) (s .ahead j (omega arith) h) (eval-in lawful (f .m) t));
           counts = picked-more (usable (ops F) es) ps i (0, 0) here
-            ∙ ap (λ b. length (picked (usable (ops F) es) (take i ps)) + cond b 1 0) taken ∙ ap (λ n. n + 1) (s .counts);
+              ∙ ap (λ b. length (picked (usable (ops F) es) (take i ps)) + cond b 1 0) taken ∙ ap (λ n. n + 1) (s .counts);
         }
       where
         past : (a : ℕ) → a < F .size → (k : ℕ) → f .count + 1 < k → getD (raise (ops F) a 0 (f .m)) k 0 ≡ 0

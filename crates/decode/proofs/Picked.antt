@@ -43,7 +43,7 @@ picked-count f [] = refl
 picked-count f (p ∷ ps) = go (picked-count f ps) (f p)
   where
     go : length (picked f ps) + length (picked (λ p. not (f p)) ps) ≡ length ps
-      → (b : Bool) → length (cond b (p .0 ∷ picked f ps) (picked f ps)) + length (cond (not b) (p .0 ∷ picked (λ p. not (f p)) ps) (picked (λ p. not (f p)) ps)) ≡ suc (length ps)
+        → (b : Bool) → length (cond b (p .0 ∷ picked f ps) (picked f ps)) + length (cond (not b) (p .0 ∷ picked (λ p. not (f p)) ps) (picked (λ p. not (f p)) ps)) ≡ suc (length ps)
     go rest true = omega arith
     go rest false = omega arith
 
@@ -52,7 +52,7 @@ misses-count o g [] = refl
 misses-count o g (p ∷ ps) = go (misses-count o g ps) (through o g p)
   where
     go : length (picked (through o g) ps) + misses o g ps ≡ length ps
-      → (b : Bool) → length (cond b (p .0 ∷ picked (through o g) ps) (picked (through o g) ps)) + cond b (misses o g ps) (suc (misses o g ps)) ≡ suc (length ps)
+        → (b : Bool) → length (cond b (p .0 ∷ picked (through o g) ps) (picked (through o g) ps)) + cond b (misses o g ps) (suc (misses o g ps)) ≡ suc (length ps)
     go rest true = omega arith
     go rest false = omega arith
 
@@ -63,7 +63,7 @@ more f (p ∷ ps) zero d h = elim (f p) as (λ b. length (cond b (p .0 ∷ []) [
 more f (p ∷ ps) (suc i) d h =
     let r = more f ps i d (omega arith) in
     elim (f p) as (λ b. length (cond b (p .0 ∷ picked f (take (suc i) ps)) (picked f (take (suc i) ps))) ≡ length (cond b (p .0 ∷ picked f (take i ps)) (picked f (take i ps))) + cond (f (getD ps i d)) 1 0)
-      [ true ↦ omega arith | false ↦ r ]
+    [ true ↦ omega arith | false ↦ r ]
 
 pub picked-more : (f : ℕ × ℕ → Bool) (ps : List (ℕ × ℕ)) (i : ℕ) (d : ℕ × ℕ) → i < length ps
     → length (picked f (take (i + 1) ps)) ≡ length (picked f (take i ps)) + cond (f (getD ps i d)) 1 0

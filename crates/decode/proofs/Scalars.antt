@@ -11,9 +11,9 @@ use Rattle.decode.specs.Coefficients.{raise}
 
 module _ {K : Type 0} {o : Ops K} (L : IsField o) where
   open Ops o using (zero as 𝟘, one as 𝟙, plus as _⊕_, times as _⊗_, minus as neg, over as inv)
+
   infixl 60 _⊕_
   infixl 70 _⊗_
-
   -- both pairs meet the value z
   pub mix-meets : (p q z n m e f : K) → n ≡ z ⊗ e → m ≡ z ⊗ f → p ⊗ n ⊕ q ⊗ m ≡ z ⊗ (p ⊗ e ⊕ q ⊗ f)
   mix-meets p q z n m e f h k = rw (h, k) (simp (ring, L))

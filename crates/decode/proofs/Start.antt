@@ -46,9 +46,11 @@ module _ {F : Algebra} (lawful : Lawful F) (d m : ℕ) (ps : List (ℕ × ℕ)) 
     where
       pos : 0 < F .size
       pos = omega (arith, lawful .one-in)
+
       past : (k : ℕ) → 0 < k → _≡_ {A = ℕ} (getD (1 ∷ replicate m 0) k 0) 0
       past zero h = absurd (omega arith)
       past (suc k) h = zeros-at m k
+
       at : (k : ℕ) → k ≡ 0 → 0 < getD (1 ∷ replicate m 0) k 0
       at zero h = omega arith
       at (suc k) h = absurd (omega arith)

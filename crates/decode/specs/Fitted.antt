@@ -34,7 +34,7 @@ pub record Fitting (F : Algebra) (es : List ℕ) (ps : List (ℕ × ℕ)) (i : �
   pub p-past : (k : ℕ) → f .count ≤ k → getD (f .p) k 0 ≡ 0
   pub m-past : (k : ℕ) → f .count < k → getD (f .m) k 0 ≡ 0
   pub at : (j : ℕ) → j < i → usable (ops F) es (getD ps j (0, 0)) ≡ true
-    → (eval (ops F) (f .p) (getD ps j (0, 0) .0) ≡ getD ps j (0, 0) .1) × (eval (ops F) (f .m) (getD ps j (0, 0) .0) ≡ 0)
+      → (eval (ops F) (f .p) (getD ps j (0, 0) .0) ≡ getD ps j (0, 0) .1) × (eval (ops F) (f .m) (getD ps j (0, 0) .0) ≡ 0)
   pub ahead : (j : ℕ) → i ≤ j → j < length ps → 0 < eval (ops F) (f .m) (getD ps j (0, 0) .0)
   pub counts : length (picked (usable (ops F) es) (take i ps)) ≡ f .count
 

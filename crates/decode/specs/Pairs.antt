@@ -27,11 +27,11 @@ mixed-of F p x q y = record { n = mix (ops F) p (x .n) (F .minus q) (y .n); e = 
 abbrev pub step-of : Algebra → ℕ × ℕ → Pair → Pair → Pair × Pair
 step-of F p a b =
     cond (eqb (discrepancy-of F a p) 0)
-      (cond (eqb (discrepancy-of F b p) 0) (a, b) (a, raised-of F b (p .0)))
-      (cond (eqb (discrepancy-of F b p) 0) (raised-of F a (p .0), b)
-        (cond (leb (a .weight) (b .weight))
-          (raised-of F a (p .0), mixed-of F (discrepancy-of F a p) b (discrepancy-of F b p) a)
-          (mixed-of F (discrepancy-of F b p) a (discrepancy-of F a p) b, raised-of F b (p .0))))
+    (cond (eqb (discrepancy-of F b p) 0) (a, b) (a, raised-of F b (p .0)))
+    (cond (eqb (discrepancy-of F b p) 0) (raised-of F a (p .0), b)
+    (cond (leb (a .weight) (b .weight))
+    (raised-of F a (p .0), mixed-of F (discrepancy-of F a p) b (discrepancy-of F b p) a)
+    (mixed-of F (discrepancy-of F b p) a (discrepancy-of F a p) b, raised-of F b (p .0))))
 
 -- a pair that meets the first i points
 pub record Shaped (F : Algebra) (d : ℕ) (ps : List (ℕ × ℕ)) (i : ℕ) (x : Pair) : Type 0 where

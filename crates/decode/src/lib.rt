@@ -5,6 +5,5 @@ mod newton;
 mod points;
 mod search;
 
-
 pub use coefficients::POINTS;
 pub use search::decode;

@@ -45,7 +45,11 @@ fn fitted<F: Field>(f: &Fit, point: (u8, u8)) -> Fit
 }
 
 // The polynomial of degree at most d through the first d + 1 points where e does not vanish.
-pub(crate) fn interpolate<F: Field>(d: usize, e: &[u8; WIDTH], points: &[(u8, u8)]) -> Option<[u8; WIDTH]>
+pub(crate) fn interpolate<F: Field>(
+    d: usize,
+    e: &[u8; WIDTH],
+    points: &[(u8, u8)],
+) -> Option<[u8; WIDTH]>
     requires { ⌜ Points algebra (now points) ⌝ ∗ ⌜ d < points-most ⌝ }
     ensures { λ r. ⌜ Interpolated algebra (now (e .entry)) d (now (points .entry)) r ⌝ }
 {

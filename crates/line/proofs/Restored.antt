@@ -143,10 +143,10 @@ module _ {F : Algebra} (L : Lawful F) (m d : ℕ) (form : List ℕ) (wide : m �
           let in-x : x < F .size = value-in L m d form (point-of (F .size) m (line-place F m w v t)) in
           let a : at-mark F d h t ≡ F .times k x = at-marks t l ∙ value-place p point pos in
           let b : eqb (at-mark F d h t) (F .times k s) ≡ eqb x s =
-              ap (λ y. eqb y (F .times k s)) a
-              ∙ same-test (F .times k x) (F .times k s) x s
-                (λ e. cancel-times L k x s (power-in L D d) in-x i nz (L .times-comm x k ∙ e ∙ L .times-comm k s))
-                (λ e. ap (F .times k) e) in
+          ap (λ y. eqb y (F .times k s)) a
+          ∙ same-test (F .times k x) (F .times k s) x s
+          (λ e. cancel-times L k x s (power-in L D d) in-x i nz (L .times-comm x k ∙ e ∙ L .times-comm k s))
+          (λ e. ap (F .times k) e) in
           rw (lt-ltb s (F .size) i) (ap not b))
           (λ (i : F .size ≤ s). rw (le-ltb s (F .size) i) refl)
           (cases-lt s (F .size))

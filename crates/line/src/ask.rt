@@ -85,7 +85,11 @@ pub(crate) fn ends<F: Field>(shape: Shape, w: usize, v: usize) -> Result<Ends, L
 pub(crate) fn point_on<F: Field>(ends: Ends, t: u8) -> [u8; 4]
     ensures { λ r. ⌜ r ≡ point-on algebra (ends .first) (ends .second) t ⌝ }
 {
-    if t == F::size() { ends.second } else { combine::<F>(ends.first, t, ends.second) }
+    if t == F::size() {
+        ends.second
+    } else {
+        combine::<F>(ends.first, t, ends.second)
+    }
 }
 
 // Whether mark i stands among the marks before it.

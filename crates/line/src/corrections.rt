@@ -20,7 +20,13 @@ use readings::AnsweredLine;
 use space::Shape;
 
 // The answer of a line that may be asked for.
-fn gathered_answer<F: Field, S: Store>(shape: Shape, store: &mut S, w: usize, v: usize, marks: &[u8]) -> Result<AnsweredLine, AnswerFault>
+fn gathered_answer<F: Field, S: Store>(
+    shape: Shape,
+    store: &mut S,
+    w: usize,
+    v: usize,
+    marks: &[u8],
+) -> Result<AnsweredLine, AnswerFault>
     requires { ⌜ ask-fault algebra (shape .q) (shape .m) (shape .d) w v (now marks) ≡ None ⌝ }
     ensures answer { λ r. ⌜ Answers algebra (shape .d) (line-readings algebra (shape .m) (S·Store .meaning (now (store .entry)) .entries) w v (now (marks .entry))) r ⌝ }
     ensures fair { λ r. ⌜ ((form : List ℕ) → form-fault algebra (shape .q) (shape .m) (shape .d) form ≡ None → Fair algebra (shape .m) (shape .d) form (S·Store .meaning (now (store .entry)) .entries) w v (now (marks .entry)) → r ≡ Ok (restored algebra (shape .m) (shape .d) form (S·Store .meaning (now (store .entry)) .entries) w v (now (marks .entry)))) ⌝ }
@@ -34,7 +40,13 @@ fn gathered_answer<F: Field, S: Store>(shape: Shape, store: &mut S, w: usize, v:
 }
 
 // Asks, gathers and answers the line through w in the direction v. It changes no cell.
-pub fn correct<F: Field, S: Store>(shape: Shape, store: &mut S, w: usize, v: usize, marks: &[u8]) -> Result<AnsweredLine, LineFault>
+pub fn correct<F: Field, S: Store>(
+    shape: Shape,
+    store: &mut S,
+    w: usize,
+    v: usize,
+    marks: &[u8],
+) -> Result<AnsweredLine, LineFault>
     ensures answer { λ r. ⌜ Corrects algebra (shape .q) (shape .m) (shape .d) (S·Store .meaning (now (store .entry)) .entries) w v (now (marks .entry)) r ⌝ }
     ensures fair { λ r. ⌜ Fair-restored algebra (shape .q) (shape .m) (shape .d) (S·Store .meaning (now (store .entry)) .entries) w v (now (marks .entry)) r ⌝ }
     ensures same { λ _. ⌜ S·Store .meaning (now (store .exit)) ≡ S·Store .meaning (now (store .entry)) ⌝ }

@@ -93,13 +93,7 @@ fn seen(q: u8, entry: Entry) -> Entry
     ensures { λ r. ⌜ r ≡ seen-entry q entry ⌝ }
 {
     match entry {
-        Entry::Symbol(s) => {
-            if s < q {
-                entry
-            } else {
-                Entry::Missing
-            }
-        }
+        Entry::Symbol(s) => { if s < q { entry } else { Entry::Missing } }
         Entry::Missing => Entry::Missing,
     }
 }

@@ -85,8 +85,8 @@ module _ {F : Algebra} (L : Lawful F) where
         ap (through (ops F) (reverse h)) (point-finite d r y n ∙ ap (λ w. (w, F .times (power (ops F) w d) v)) (over-is t m n))
         ∙ ap (λ w. eqb w (F .times k v)) (at-inverse L h d t u codes long lt (L .over-in t) one)
         ∙ same-test (F .times k E) (F .times k v) E v
-            (λ e. cancel-times L k E v (power-in L u d) (eval-in L h t) (L .times-in _ _) pos (L .times-comm E k ∙ e ∙ L .times-comm k v))
-            (λ e. ap (F .times k) e)
+        (λ e. cancel-times L k E v (power-in L u d) (eval-in L h t) (L .times-in _ _) pos (L .times-comm E k ∙ e ∙ L .times-comm k v))
+        (λ e. ap (F .times k) e)
         ∙ ap (λ w. eqb w v) (sym (mark-finite d h t n)))
         (cases-eq (r .mark) (F .size))
 

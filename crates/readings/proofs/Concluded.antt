@@ -50,7 +50,7 @@ module _ {F : Algebra} (L : Lawful F) (d : ℕ) (rs : List Reading) (told : mark
       let l : length (reverse g) ≡ suc d = length-reverse g ∙ n .long in
       let c = codes-reverse L g (n .small) in
       let w : count (wrongs F d (reverse g) rs) ≡ misses (ops F) g (points-of F d rs) =
-          ap count (sym (wrongs-agreed L d (reverse g) l c rs told)) ∙ ap (λ k. count (map (misses-reading F d k) rs)) (reverse-reverse g) ∙ sym (misses-counted L d g rs) in
+      ap count (sym (wrongs-agreed L d (reverse g) l c rs told)) ∙ ap (λ k. count (map (misses-reading F d k) rs)) (reverse-reverse g) ∙ sym (misses-counted L d g rs) in
       record { long = l; codes = c; few = rw (w, read-points) (n .few) }
 
   -- few wrong and missing readings leave enough that are right
@@ -113,7 +113,7 @@ module _ {F : Algebra} (L : Lawful F) (d : ℕ) (rs : List Reading) (told : mark
     found-explains e symbol wrong missing es ew em =
         let S : ℕ → ℕ → ℕ → AnsweredLine = λ a b c. record { symbol = a; wrong = b; missing = c } in
         let a : S symbol wrong missing ≡ answered F d rs (reverse first) =
-            ap₂ (λ x y. S x y missing) (es ∙ symbol-is) (ew ∙ ap bits wrong-is) ∙ ap (S (eval (ops F) (reverse first) 0) (bits (wrongs F d (reverse first) rs))) em in
+        ap₂ (λ x y. S x y missing) (es ∙ symbol-is) (ew ∙ ap bits wrong-is) ∙ ap (S (eval (ops F) (reverse first) 0) (bits (wrongs F d (reverse first) rs))) em in
         record {
           answer = (e, (reverse first, explains, a));
           one = λ h k _ x y. only h x ∙ sym (only k y);

@@ -16,9 +16,10 @@ loop-k-again g c =
     let k = c .loop-k .k in
     let target = mix o (c .args .p) (c .args .xs .now) (c .args .q) (c .args .ys .now) in
     let e : c .add .result ≡ getD target k 0 =
-      cc (getD-mix o (c .args .p) (c .args .xs .now) (c .args .q) (c .args .ys .now) 0 k (omega arith) (omega arith)) in
-    (length-set (c .loop-k .made) k (c .add .result) ∙ c .loop-k .inv .0,
-     rw e (fill-by-more (λ j. getD target j 0) (c .loop-k .made) k 0 (omega arith) (c .loop-k .inv .1)))
+    cc (getD-mix o (c .args .p) (c .args .xs .now) (c .args .q) (c .args .ys .now) 0 k (omega arith) (omega arith)) in (
+      length-set (c .loop-k .made) k (c .add .result) ∙ c .loop-k .inv .0,
+      rw e (fill-by-more (λ j. getD target j 0) (c .loop-k .made) k 0 (omega arith) (c .loop-k .inv .1)),
+    )
 
 pub returns : need.returns
 returns g c =

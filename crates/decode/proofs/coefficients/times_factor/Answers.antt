@@ -18,10 +18,11 @@ loop-k-again g c =
     let a = g .F·Field .algebra .minus (c .args .u) in
     let target = raise o a 0 (c .args .p .now) in
     let e : c .add .result ≡ getD target k 0 =
-      cc (getD-raise o a 0 (c .args .p .now) 0 k (omega arith)) in
-    (length-set (c .loop-k .made) k (c .add .result) ∙ c .loop-k .inv .0,
-     rw add-one refl,
-     rw e (fill-by-more (λ j. getD target j 0) (c .loop-k .made) k 0 (omega arith) (c .loop-k .inv .2)))
+    cc (getD-raise o a 0 (c .args .p .now) 0 k (omega arith)) in (
+      length-set (c .loop-k .made) k (c .add .result) ∙ c .loop-k .inv .0,
+      rw add-one refl,
+      rw e (fill-by-more (λ j. getD target j 0) (c .loop-k .made) k 0 (omega arith) (c .loop-k .inv .2)),
+    )
 
 pub returns : need.returns
 returns g c =

@@ -15,8 +15,8 @@ returns-then-points-i g c =
     let ps = c .args .points .now in
     let i = c .loop-i .i in
     λ p.
-      let h = all-getD (λ x. (x .0 < F .size) × (x .1 < F .size)) ps i (0, 0) (omega arith) (p .small) in
-      elim (c .then-points-i .came) [ then-points-i·by·then-points-i w ↦ omega arith | then-points-i·by·else-points-i·then-points-i-2 w ↦ omega arith ]
+    let h = all-getD (λ x. (x .0 < F .size) × (x .1 < F .size)) ps i (0, 0) (omega arith) (p .small) in
+    elim (c .then-points-i .came) [ then-points-i·by·then-points-i w ↦ omega arith | then-points-i·by·else-points-i·then-points-i-2 w ↦ omega arith ]
 
 pub returns-then-not-fresh : need.returns-then-not-fresh
 returns-then-not-fresh g c =

@@ -22,14 +22,14 @@ loop-i-again g c =
     let rest = misses o gs (drop (i + 1) ps) in
     let d : misses o gs (drop i ps) ≡ cond (through o gs (getD ps i (0, 0))) rest (suc rest) = ap (misses o gs) (drop-more ps i (0, 0) (omega arith)) in
     elim (c .if-evaluate-points .came) [
-      then-evaluate-points w ↦
-        let b : through o gs (getD ps i (0, 0)) ≡ false = ne-eqb (eval o gs (getD ps i (0, 0) .0)) (getD ps i (0, 0) .1) (λ e. w .if-evaluate-points .taken (c .evaluate .ensures ∙ e)) in
-        let e = d ∙ ap (λ v. cond v rest (suc rest)) b in
-        (omega arith, omega arith)
-    | else-evaluate-points w ↦
-        let b : through o gs (getD ps i (0, 0)) ≡ true = eq-eqb (eval o gs (getD ps i (0, 0) .0)) (getD ps i (0, 0) .1) (sym (c .evaluate .ensures) ∙ w .if-evaluate-points .left) in
-        let e = d ∙ ap (λ v. cond v rest (suc rest)) b in
-        (omega arith, omega arith)
+      | then-evaluate-points w ↦
+          let b : through o gs (getD ps i (0, 0)) ≡ false = ne-eqb (eval o gs (getD ps i (0, 0) .0)) (getD ps i (0, 0) .1) (λ e. w .if-evaluate-points .taken (c .evaluate .ensures ∙ e)) in
+          let e = d ∙ ap (λ v. cond v rest (suc rest)) b in
+          (omega arith, omega arith)
+      | else-evaluate-points w ↦
+          let b : through o gs (getD ps i (0, 0)) ≡ true = eq-eqb (eval o gs (getD ps i (0, 0) .0)) (getD ps i (0, 0) .1) (sym (c .evaluate .ensures) ∙ w .if-evaluate-points .left) in
+          let e = d ∙ ap (λ v. cond v rest (suc rest)) b in
+          (omega arith, omega arith)
     ]
 
 pub returns : need.returns

@@ -8,7 +8,7 @@ use Rattle.readings.proofs.marks.tellable.Needs as need
 pub returns-then-mark-lt1 : need.returns-then-mark-lt1
 returns-then-mark-lt1 c =
     sym (mark-outside (c .args .q) (c .args .readings .now) (c .loop-i .i) _ (c .loop-i-test .taken)
-      (elim (c .then-mark-lt1 .came) [ then-mark-lt1·by·then-mark-lt1 w ↦ inl (w .if-mark-lt1 .taken) | then-mark-lt1·by·else-mark-lt1·then-mark-q w ↦ inr (w .if-mark-q .taken) ]))
+    (elim (c .then-mark-lt1 .came) [ then-mark-lt1·by·then-mark-lt1 w ↦ inl (w .if-mark-lt1 .taken) | then-mark-lt1·by·else-mark-lt1·then-mark-q w ↦ inr (w .if-mark-q .taken) ]))
     ∙ c .loop-i .inv
 
 pub returns-then-comes-later : need.returns-then-comes-later

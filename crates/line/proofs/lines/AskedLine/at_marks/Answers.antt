@@ -16,11 +16,10 @@ target-requires g c κs =
 
 pub loop-i-again : need.loop-i-again
 loop-i-again g c =
-    let l = c .loop-i in
-    (
+    let l = c .loop-i in (
       length-set (l .targets) (l .i) _ ∙ l .inv .0,
       fill-more (target-at (g .F·Field .algebra) (c .args .shape .m) (c .args .ends .first) (c .args .ends .second)) (c .args .marks .now) (l .targets) (l .i) 0 _
-        (c .loop-i-test .taken) (omega (arith, l .inv .0)) (l .inv .1) (c .target .ensures),
+          (c .loop-i-test .taken) (omega (arith, l .inv .0)) (l .inv .1) (c .target .ensures),
     )
 
 pub returns : need.returns

@@ -21,8 +21,7 @@ loop-i-again g c =
     let none : Target = record { mark = 0; place = 0; divisor = 0 } in
     let t = getD (c .args .self .targets) (l .i) none in
     let v : c .read-target .result ≡ reading-of q (m .entries) t =
-        r .reading ∙ ap (λ k. reading-of k (g .S·Store .meaning (l .store) .entries) t) (c .size .ensures) ∙ ap (λ (w : Meaning). reading-of q (w .entries) t) (l .inv .2) in
-    (
+    r .reading ∙ ap (λ k. reading-of k (g .S·Store .meaning (l .store) .entries) t) (c .size .ensures) ∙ ap (λ (w : Meaning). reading-of q (w .entries) t) (l .inv .2) in (
       length-set (l .readings) (l .i) _ ∙ l .inv .0,
       fill-more (reading-of q (m .entries)) (c .args .self .targets) (l .readings) (l .i) none (c .read-target .result) (omega arith) (omega (arith, l .inv .0)) (l .inv .1) v,
       r .same ∙ l .inv .2,
