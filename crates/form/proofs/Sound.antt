@@ -67,7 +67,7 @@ sound-form F q m d cs e =
       codes = subst (λ n. All (λ x. x < n) cs) s (codes-without-excess q 0 cs (no-excess (first-excess q 0 cs) f));
     }
 
-no-fault : (o : Option FormFault) → unless {X = Unit {0}} o (Ok tt) ≡ Ok tt → o ≡ None
+pub no-fault : (o : Option FormFault) → unless {X = Unit {0}} o (Ok tt) ≡ Ok tt → o ≡ None
 no-fault (Some f) e = absurd (let z : _≡_ {A = ℕ} 0 1 = cc in omega arith)
 no-fault None e = refl
 
