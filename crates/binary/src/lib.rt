@@ -1,4 +1,6 @@
 // The fields of 4, 8 and 16 symbols: polynomials over two elements, reduced by x^2 + x + 1, x^3 + x + 1 and x^4 + x + 1.
+#![tactic(auto)]
+
 mod b16;
 mod b4;
 mod b8;

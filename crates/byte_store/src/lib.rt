@@ -1,4 +1,6 @@
 // One cell a byte.
+#![tactic(auto)]
+
 ghost use Rattle.std.specs.Prelude.{◌≡◌, ℕ, ◌<◌, min, List, [], ◌∷◌};
 ghost use Rattle.cells.specs.Stores.{InAlphabet, count_of, entry_at, with_entry};
 ghost use Rattle.byte_store.specs.ByteStores.{BytesTold, byte_meaning, byte_kept};

@@ -1,4 +1,6 @@
 // Stores of cells: what a store means, and what its calls answer, leave and refuse.
+#![tactic(auto)]
+
 mod entries;
 mod faults;
 mod puts;

@@ -1,4 +1,6 @@
 // The polynomial that all but a few of given points lie on.
+#![tactic(auto)]
+
 mod coefficients;
 mod key;
 mod newton;

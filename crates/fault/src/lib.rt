@@ -1,4 +1,6 @@
 // What every refusal tells: the part that refuses, its number, and a position.
+#![tactic(auto)]
+
 ghost use Rattle.std.specs.Prelude.{◌≡◌};
 ghost use Rattle.fault.specs.declared.code.FaultCode.{FaultCode};
 

@@ -1,4 +1,6 @@
 // A finite field on the codes 0 to Q - 1, its laws, and powers.
+#![tactic(auto)]
+
 ghost use Rattle.std.specs.Prelude.{◌≡◌, ℕ, ◌+◌, ◌-◌, ◌<◌, ◌≤◌};
 ghost use Rattle.field.specs.Algebra.{Algebra, Lawful, inverse, ops, power as power_of};
 

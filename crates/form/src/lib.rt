@@ -1,4 +1,6 @@
 // Forms of a shape, and their values.
+#![tactic(auto)]
+
 mod calls;
 mod evaluate;
 mod faults;

@@ -1,4 +1,6 @@
 // Two cells a byte.
+#![tactic(auto)]
+
 ghost use Rattle.std.specs.Prelude.{◌≡◌, ℕ, ◌*◌, ◌%◌, ◌<◌, min, List, [], ◌∷◌, ◌==◌};
 ghost use Rattle.cells.specs.Stores.{InAlphabet, count_of, entry_at, with_entry};
 ghost use Rattle.half_store.specs.HalfStores.{HalvesTold, half_meaning, half_kept, half_of, with_half};

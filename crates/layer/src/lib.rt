@@ -1,4 +1,6 @@
 // What layers over stores have in common. A layer holds the store below by value and shows entries of it, each at a place there. Its calls are calls below at that place, and their refusals tell the layer's own entry.
+#![tactic(auto)]
+
 ghost use Rattle.std.specs.Prelude.{◌≡◌};
 ghost use Rattle.layer.specs.Places.{told_at, read_through, wipe_through, wiped_through, put_through, put_below};
 

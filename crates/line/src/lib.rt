@@ -1,4 +1,6 @@
 // A symbol from one line: ask, gather, answer.
+#![tactic(auto)]
+
 mod ask;
 mod corrections;
 mod faults;

@@ -1,4 +1,6 @@
 // Symbols put through a stride over a window: into any store, and into lent bytes.
+#![tactic(auto)]
+
 ghost use Rattle.std.specs.Prelude.{◌≡◌};
 ghost use Rattle.cells.specs.Puts.{put_all_answer};
 ghost use Rattle.byte_store.specs.ByteStores.{byte_meaning, byte_kept, byte_row};

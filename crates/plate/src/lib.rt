@@ -1,4 +1,6 @@
 // Plates: a field, a shape and a store, and the five calls on them.
+#![tactic(auto)]
+
 mod calls;
 mod coded;
 mod faults;

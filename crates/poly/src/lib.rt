@@ -1,4 +1,6 @@
 // Polynomials over a field, by their coefficients, the lowest first.
+#![tactic(auto)]
+
 ghost use Rattle.std.specs.Prelude.{◌≡◌, ℕ, ◌+◌, ◌-◌, ◌<◌, ◌≤◌};
 ghost use Rattle.field.specs.Algebra.{ops};
 ghost use Rattle.poly.specs.Poly.{eval};

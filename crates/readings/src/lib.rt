@@ -1,4 +1,6 @@
 // From the readings of a line to the symbol that they give.
+#![tactic(auto)]
+
 mod decide;
 mod kinds;
 mod list;

@@ -1,4 +1,6 @@
 // The report of one line of a job, as bytes.
+#![tactic(auto)]
+
 mod buffer;
 mod kinds;
 mod puts;

@@ -1,4 +1,6 @@
 // Examples of reports.
+#![tactic(auto)]
+
 #[cfg(test)]
 mod tests {
     use report::{Report, write_header, write_report};

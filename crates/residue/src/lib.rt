@@ -1,4 +1,6 @@
 // The fields of residues modulo 2, 3, 5, 7, 11 and 13.
+#![tactic(auto)]
+
 mod fields;
 mod modulo;
 

@@ -1,4 +1,6 @@
 // Prints the codeword of a sheet: each place with its normal point and symbol, and the shape's numbers.
+#![tactic(auto)]
+
 use anyhow::anyhow;
 use field::Field;
 use form::{Form, coefficient_count, gap};

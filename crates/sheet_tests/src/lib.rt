@@ -1,3 +1,5 @@
+#![tactic(auto)]
+
 ghost use Rattle.std.proofs.Common.{lit<};
 ghost use Rattle.residue.specs.Remainders.{residues_lawful};
 

@@ -1,4 +1,6 @@
 // Shapes, points and places.
+#![tactic(auto)]
+
 mod answers;
 mod counts;
 mod faults;

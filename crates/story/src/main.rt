@@ -1,4 +1,6 @@
 // Prints what a damaged line says of a cell, and a run of calls with their answers.
+#![tactic(auto)]
+
 mod damaged;
 mod story;
 

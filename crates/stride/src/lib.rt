@@ -1,4 +1,6 @@
 // A stride over a store.
+#![tactic(auto)]
+
 ghost use Rattle.std.specs.Prelude.{◌≡◌, ◌*◌, ◌%◌, if◌then◌else◌, nat_le};
 ghost use Rattle.layer.specs.Places.{Passes, place_in};
 ghost use Rattle.stride.specs.Strides.{StrideKept, StrideTold, stride_meaning, stride_kept};

@@ -1,4 +1,6 @@
 // A window on a store.
+#![tactic(auto)]
+
 ghost use Rattle.std.specs.Prelude.{◌≡◌, ◌+◌, ◌-◌, ◌^◌, ◌<◌, min};
 ghost use Rattle.cells.specs.Stores.{Sound, count_of};
 ghost use Rattle.layer.specs.Places.{Passes, place_in};
