@@ -40,7 +40,7 @@ pub trait Field {
 
 // x times itself, n times: 1 where n is 0.
 pub fn power<F: Field>(x: u8, n: usize) -> u8
-    ensures { result ≡ power_of (ops algebra) x n }
+    ensures { result ≡ power_of (ops F.algebra) x n }
 {
     let mut product = 1;
     for _k in 0..n {

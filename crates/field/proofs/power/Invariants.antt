@@ -3,4 +3,4 @@ use Rattle.field.specs.Algebra.{ops, power}
 use Rattle.field.proofs.power.Given as goal
 
 abbrev pub invariant-loop-k : goal.invariant-loop-k
-invariant-loop-k g l = l.product ≡ power (ops g.F.Field.algebra) l.x l.-k
+invariant-loop-k g l = l.product ≡ power (ops g.F.Field.algebra) l.x l._k
