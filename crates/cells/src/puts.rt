@@ -7,10 +7,10 @@ use crate::stores::{Store, WritableStore};
 
 // Puts `symbols` into the entries from 0 on, up to the first that is refused.
 pub fn put_all<S: WritableStore>(store: &mut S, symbols: &[u8]) -> Result<(), StoreFault>
-    ensures answer { result ≡ put_all_answer (S.Store.meaning store.old) symbols.now }
-    ensures done { S.Store.meaning store.new ≡ put_all_in (S.Store.meaning store.old) symbols.now }
-    ensures kept { S.Store.kept store.new ≡ S.Store.kept store.old }
-    ensures lent { S.Store.lent store.new ≡ S.Store.lent store.old }
+    ensures answer { result ≡ put_all_answer (S.meaning store.old) symbols.now }
+    ensures done { S.meaning store.new ≡ put_all_in (S.meaning store.old) symbols.now }
+    ensures kept { S.kept store.new ≡ S.kept store.old }
+    ensures lent { S.lent store.new ≡ S.lent store.old }
 {
     for i in 0..symbols.len() {
         store.put(i, symbols[i])?;

@@ -36,15 +36,15 @@ pub trait Store {
 pub trait WritableStore: Store {
     // Puts a symbol into entry `i`.
     fn put(&mut self, i: usize, symbol: u8) -> Result<(), StoreFault>
-        ensures answer { result ≡ put_answer (Self.Store.meaning self.old) i symbol }
-        ensures done { Self.Store.meaning self.new ≡ put_in (Self.Store.meaning self.old) i symbol }
-        ensures kept { Self.Store.kept self.new ≡ Self.Store.kept self.old }
-        ensures lent { Self.Store.lent self.new ≡ Self.Store.lent self.old };
+        ensures answer { result ≡ put_answer (Self.meaning self.old) i symbol }
+        ensures done { Self.meaning self.new ≡ put_in (Self.meaning self.old) i symbol }
+        ensures kept { Self.kept self.new ≡ Self.kept self.old }
+        ensures lent { Self.lent self.new ≡ Self.lent self.old };
 
     // Makes entry `i` missing.
     fn wipe(&mut self, i: usize) -> Result<(), StoreFault>
-        ensures answer { result ≡ wipe_answer (Self.Store.meaning self.old) i }
-        ensures done { Self.Store.meaning self.new ≡ wiped (Self.Store.meaning self.old) i }
-        ensures kept { Self.Store.kept self.new ≡ Self.Store.kept self.old }
-        ensures lent { Self.Store.lent self.new ≡ Self.Store.lent self.old };
+        ensures answer { result ≡ wipe_answer (Self.meaning self.old) i }
+        ensures done { Self.meaning self.new ≡ wiped (Self.meaning self.old) i }
+        ensures kept { Self.kept self.new ≡ Self.kept self.old }
+        ensures lent { Self.lent self.new ≡ Self.lent self.old };
 }

@@ -14,7 +14,7 @@ pub(crate) const WIDTH: usize = 2 * POINTS;
 
 // X - u times the polynomial, cut to the width.
 pub(crate) fn times_factor<F: Field>(p: &[u8; WIDTH], u: u8) -> [u8; WIDTH]
-    ensures { result ≡ raise (ops algebra) (algebra.minus u) 0 p.now }
+    ensures { result ≡ raise (ops F.algebra) (F.algebra.minus u) 0 p.now }
 {
     let a = F::neg(u);
     let mut made = [0; WIDTH];
@@ -28,7 +28,7 @@ pub(crate) fn times_factor<F: Field>(p: &[u8; WIDTH], u: u8) -> [u8; WIDTH]
 
 // p times the one and q times the other.
 pub(crate) fn combine<F: Field>(p: u8, xs: &[u8; WIDTH], q: u8, ys: &[u8; WIDTH]) -> [u8; WIDTH]
-    ensures { result ≡ mix (ops algebra) p xs.now q ys.now }
+    ensures { result ≡ mix (ops F.algebra) p xs.now q ys.now }
 {
     let mut made = [0; WIDTH];
     for k in 0..WIDTH {

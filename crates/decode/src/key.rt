@@ -18,7 +18,7 @@ pub(crate) struct Pair {
 
 // n less the value times e, at the point.
 fn discrepancy<F: Field>(x: &Pair, point: (u8, u8)) -> u8
-    ensures { result ≡ discrepancy_of algebra x.now point }
+    ensures { result ≡ discrepancy_of F.algebra x.now point }
 {
     let n = evaluate::<F>(&x.n, point.0);
     let e = evaluate::<F>(&x.e, point.0);
@@ -28,7 +28,7 @@ fn discrepancy<F: Field>(x: &Pair, point: (u8, u8)) -> u8
 // X - u times both.
 fn raised<F: Field>(x: &Pair, u: u8) -> Pair
     requires { x.now.weight < 100 }
-    ensures { result ≡ raised_of algebra x.now u }
+    ensures { result ≡ raised_of F.algebra x.now u }
 {
     Pair {
         n: times_factor::<F>(&x.n, u),
@@ -39,7 +39,7 @@ fn raised<F: Field>(x: &Pair, u: u8) -> Pair
 
 // p times the one less q times the other.
 fn mixed<F: Field>(p: u8, x: &Pair, q: u8, y: &Pair) -> Pair
-    ensures { result ≡ mixed_of algebra p x.now q y.now }
+    ensures { result ≡ mixed_of F.algebra p x.now q y.now }
 {
     let m = F::neg(q);
     Pair {
@@ -52,7 +52,7 @@ fn mixed<F: Field>(p: u8, x: &Pair, q: u8, y: &Pair) -> Pair
 // Both pairs made to meet one point more; the lighter one that does not is raised.
 fn step<F: Field>(a: Pair, b: Pair, point: (u8, u8)) -> (Pair, Pair)
     requires { (a.weight < 100) × (b.weight < 100) }
-    ensures { result ≡ step_of algebra point a b }
+    ensures { result ≡ step_of F.algebra point a b }
 {
     let da = discrepancy::<F>(&a, point);
     let db = discrepancy::<F>(&b, point);
@@ -75,8 +75,8 @@ fn step<F: Field>(a: Pair, b: Pair, point: (u8, u8)) -> (Pair, Pair)
 
 // A pair that meets every point, of least weight.
 pub(crate) fn solve<F: Field>(d: usize, points: &[(u8, u8)]) -> Pair
-    requires { (Points algebra points.now) × ((length points.now ≤ points_most) × (d < length points.now)) }
-    ensures { Solution algebra d points.now result }
+    requires { (Points F.algebra points.now) × ((length points.now ≤ points_most) × (d < length points.now)) }
+    ensures { Solution F.algebra d points.now result }
 {
     let mut a = Pair {
         n: constant(1),

@@ -19,7 +19,7 @@ struct Fit {
 
 // The inverse, or 0 where there is none.
 fn inverse_or_zero<F: Field>(a: u8) -> u8
-    ensures { result ≡ value_or (inverse algebra a) }
+    ensures { result ≡ value_or (inverse F.algebra a) }
 {
     match F::inv(a) {
         Some(over) => over,
@@ -30,7 +30,7 @@ fn inverse_or_zero<F: Field>(a: u8) -> u8
 // Through one point more.
 fn fitted<F: Field>(f: &Fit, point: (u8, u8)) -> Fit
     requires { f.now.count < 100 }
-    ensures { result ≡ fitted_of algebra f.now point }
+    ensures { result ≡ fitted_of F.algebra f.now point }
 {
     let missed = F::add(point.1, F::neg(evaluate::<F>(&f.p, point.0)));
     let factor = F::mul(missed, inverse_or_zero::<F>(evaluate::<F>(&f.m, point.0)));
@@ -47,8 +47,8 @@ pub(crate) fn interpolate<F: Field>(
     e: &[u8; WIDTH],
     points: &[(u8, u8)],
 ) -> Option<[u8; WIDTH]>
-    requires { (Points algebra points.now) × (d < points_most) }
-    ensures { Interpolated algebra e.now d points.now result }
+    requires { (Points F.algebra points.now) × (d < points_most) }
+    ensures { Interpolated F.algebra e.now d points.now result }
 {
     let mut fit = Fit {
         p: constant(0),

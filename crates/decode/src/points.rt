@@ -8,7 +8,7 @@ use poly::evaluate;
 
 // How many of the points the polynomial does not go through.
 pub(crate) fn count_misses<F: Field>(g: &[u8], points: &[(u8, u8)]) -> usize
-    ensures { result ≡ misses (ops algebra) g.now points.now }
+    ensures { result ≡ misses (ops F.algebra) g.now points.now }
 {
     let mut missed = 0;
     for i in 0..points.len() {
@@ -34,7 +34,7 @@ fn fresh(points: &[(u8, u8)], i: usize) -> bool
 
 // Whether the points are codes of the field at distinct places.
 pub(crate) fn admissible<F: Field>(points: &[(u8, u8)]) -> bool
-    ensures { Admits algebra points.now result }
+    ensures { Admits F.algebra points.now result }
 {
     for i in 0..points.len() {
         if points[i].0 >= F::size() || points[i].1 >= F::size() {

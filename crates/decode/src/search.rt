@@ -10,8 +10,8 @@ use field::Field;
 
 // The coefficients, at most d + 1, that all but a few of the points go through: at most half of the points beyond d + 1 may miss.
 fn near<F: Field>(d: usize, points: &[(u8, u8)]) -> Option<[u8; WIDTH]>
-    requires { (Points algebra points.now) × ((length points.now ≤ points_most) × (d < length points.now)) }
-    ensures { Decoded algebra d points.now result }
+    requires { (Points F.algebra points.now) × ((length points.now ≤ points_most) × (d < length points.now)) }
+    ensures { Decoded F.algebra d points.now result }
 {
     let pair = solve::<F>(d, points);
     match interpolate::<F>(d, &pair.e, points) {
@@ -29,7 +29,7 @@ fn near<F: Field>(d: usize, points: &[(u8, u8)]) -> Option<[u8; WIDTH]>
 // The polynomial of degree at most d that at most half of the points beyond d + 1 miss, its coefficients filled up with zeros.
 // None where there is none, and where the points are not codes at distinct places, not more than d, or too many.
 pub fn decode<F: Field>(d: usize, points: &[(u8, u8)]) -> Option<[u8; WIDTH]>
-    ensures { DecodeAnswer algebra d points.now result }
+    ensures { DecodeAnswer F.algebra d points.now result }
 {
     if points.len() > POINTS || d >= points.len() {
         return None;

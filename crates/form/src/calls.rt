@@ -104,7 +104,7 @@ impl<'a> Form<'a> {
 
     // Whether the coefficients are a form of the shape over the field.
     pub fn check<F: Field>(&self) -> Result<(), FormFault>
-        ensures { result ≡ check_answer algebra self.now }
+        ensures { result ≡ check_answer F.algebra self.now }
     {
         if self.shape.q != F::size() {
             return Err(FormFault::OtherField);
@@ -120,18 +120,18 @@ impl<'a> Form<'a> {
 
     // The value at a point of the shape over its field.
     fn at<F: Field>(&self, p: [u8; 4]) -> u8
-        requires sound { check_answer algebra self.now ≡ Ok tt }
+        requires sound { check_answer F.algebra self.now ≡ Ok tt }
         requires point { Point self.now.shape.q self.now.shape.m p }
-        ensures exact { result ≡ value_at algebra self.now.shape.m self.now.shape.d self.now.coefficients.now p }
-        ensures leading { Leading algebra self.now.shape.m self.now.shape.d self.now.coefficients.now p result }
+        ensures exact { result ≡ value_at F.algebra self.now.shape.m self.now.shape.d self.now.coefficients.now p }
+        ensures leading { Leading F.algebra self.now.shape.m self.now.shape.d self.now.coefficients.now p result }
     {
         value_of::<F>(p, self.shape.m, self.shape.d, self.coefficients)
     }
 
     // The value at a point.
     pub fn value<F: Field>(&self, p: [u8; 4]) -> Result<u8, FormFault>
-        ensures answer { result ≡ value_answer algebra self.now p }
-        ensures leading { IfOk result (Leading algebra self.now.shape.m self.now.shape.d self.now.coefficients.now p) }
+        ensures answer { result ≡ value_answer F.algebra self.now p }
+        ensures leading { IfOk result (Leading F.algebra self.now.shape.m self.now.shape.d self.now.coefficients.now p) }
     {
         self.check::<F>()?;
         check_point::<F>(self.shape, p)?;
@@ -140,7 +140,7 @@ impl<'a> Form<'a> {
 
     // The symbol of the form's codeword at a place.
     pub fn symbol<F: Field>(&self, place: usize) -> Result<u8, FormFault>
-        ensures { result ≡ symbol_answer algebra self.now place }
+        ensures { result ≡ symbol_answer F.algebra self.now place }
     {
         self.check::<F>()?;
         let p = point_of::<F>(self.shape, place)?;

@@ -10,7 +10,7 @@ use field::Field;
 // The powers of x up to d.
 fn powers<F: Field>(x: u8, d: usize) -> [u8; 16]
     requires { d < 16 }
-    ensures { Powers (ops algebra) x d result }
+    ensures { Powers (ops F.algebra) x d result }
 {
     let mut table = [1; 16];
     for e in 0..d {
@@ -24,9 +24,9 @@ fn powers<F: Field>(x: u8, d: usize) -> [u8; 16]
 fn over<F: Field>(xs: &[u8], table: &[u8; 16], d: usize, cs: &[u8], at: usize) -> (u8, usize)
     requires many { 0 < length xs.now }
     requires low { d < 16 }
-    requires right { Powers (ops algebra) (last 0 xs.now) d table.now }
+    requires right { Powers (ops F.algebra) (last 0 xs.now) d table.now }
     requires enough { at + terms (length xs.now) d ≤ length cs.now }
-    ensures made { result.0 ≡ nested (ops algebra) xs.now d (drop at cs.now) }
+    ensures made { result.0 ≡ nested (ops F.algebra) xs.now d (drop at cs.now) }
     ensures next { result.1 ≡ at + terms (length xs.now) d }
 {
     if xs.len() == 1 {
@@ -48,11 +48,11 @@ pub(crate) fn value_of<F: Field>(p: [u8; 4], m: usize, d: usize, cs: &[u8]) -> u
     requires wide { m ≤ 3 }
     requires low { d < 16 }
     requires whole { length cs.now ≡ coefficient_count m d }
-    requires point { Codes algebra p }
-    requires codes { Codes algebra cs.now }
-    ensures exact { result ≡ value_at algebra m d cs.now p }
-    ensures multiples { Multiples algebra d }
-    ensures lines { OnLines algebra d }
+    requires point { Codes F.algebra p }
+    requires codes { Codes F.algebra cs.now }
+    ensures exact { result ≡ value_at F.algebra m d cs.now p }
+    ensures multiples { Multiples F.algebra d }
+    ensures lines { OnLines F.algebra d }
 {
     let table = powers::<F>(p[m], d);
     let (result, _) = over::<F>(&p[..m + 1], &table, d, cs, 0);

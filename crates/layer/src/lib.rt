@@ -17,10 +17,10 @@ fn retold<T>(answer: Result<T, StoreFault>, i: usize) -> Result<T, StoreFault>
 }
 
 pub fn read_at<S: Store>(below: &mut S, place: Option<usize>, i: usize) -> Result<Entry, StoreFault>
-    ensures answer { result ≡ read_through (S.Store.meaning below.old) place i }
-    ensures same { S.Store.meaning below.new ≡ S.Store.meaning below.old }
-    ensures kept { S.Store.kept below.new ≡ S.Store.kept below.old }
-    ensures lent { S.Store.lent below.new ≡ S.Store.lent below.old }
+    ensures answer { result ≡ read_through (S.meaning below.old) place i }
+    ensures same { S.meaning below.new ≡ S.meaning below.old }
+    ensures kept { S.kept below.new ≡ S.kept below.old }
+    ensures lent { S.lent below.new ≡ S.lent below.old }
 {
     match place {
         Some(at) => retold(below.read(at), i),
@@ -34,10 +34,10 @@ pub fn put_at<S: WritableStore>(
     i: usize,
     symbol: u8,
 ) -> Result<(), StoreFault>
-    ensures answer { result ≡ put_through (S.Store.meaning below.old) place i symbol }
-    ensures done { S.Store.meaning below.new ≡ put_below (S.Store.meaning below.old) place symbol }
-    ensures kept { S.Store.kept below.new ≡ S.Store.kept below.old }
-    ensures lent { S.Store.lent below.new ≡ S.Store.lent below.old }
+    ensures answer { result ≡ put_through (S.meaning below.old) place i symbol }
+    ensures done { S.meaning below.new ≡ put_below (S.meaning below.old) place symbol }
+    ensures kept { S.kept below.new ≡ S.kept below.old }
+    ensures lent { S.lent below.new ≡ S.lent below.old }
 {
     match place {
         Some(at) => retold(below.put(at, symbol), i),
@@ -50,10 +50,10 @@ pub fn wipe_at<S: WritableStore>(
     place: Option<usize>,
     i: usize,
 ) -> Result<(), StoreFault>
-    ensures answer { result ≡ wipe_through (S.Store.meaning below.old) place i }
-    ensures done { S.Store.meaning below.new ≡ wiped_through (S.Store.meaning below.old) place }
-    ensures kept { S.Store.kept below.new ≡ S.Store.kept below.old }
-    ensures lent { S.Store.lent below.new ≡ S.Store.lent below.old }
+    ensures answer { result ≡ wipe_through (S.meaning below.old) place i }
+    ensures done { S.meaning below.new ≡ wiped_through (S.meaning below.old) place }
+    ensures kept { S.kept below.new ≡ S.kept below.old }
+    ensures lent { S.lent below.new ≡ S.lent below.old }
 {
     match place {
         Some(at) => retold(below.wipe(at), i),

@@ -52,7 +52,7 @@ impl From<AnswerFault> for LineFault {
 
 // The normal points of w and v, where both are places and differ.
 pub(crate) fn ends<F: Field>(shape: Shape, w: usize, v: usize) -> Result<Ends, LineFault>
-    ensures answer { result ≡ ends_answer algebra shape.q shape.m w v }
+    ensures answer { result ≡ ends_answer F.algebra shape.q shape.m w v }
     ensures normal { IfOk result (λ e. Normal shape.q shape.m e.first × Normal shape.q shape.m e.second) }
 {
     let first = match point_of::<F>(shape, w) {
@@ -71,7 +71,7 @@ pub(crate) fn ends<F: Field>(shape: Shape, w: usize, v: usize) -> Result<Ends, L
 
 // The point at which mark t reads the line.
 pub(crate) fn point_on<F: Field>(ends: Ends, t: u8) -> [u8; 4]
-    ensures { result ≡ point_on algebra ends.first ends.second t }
+    ensures { result ≡ point_on F.algebra ends.first ends.second t }
 {
     if t == F::size() {
         ends.second
@@ -95,7 +95,7 @@ fn came_before(marks: &[u8], i: usize) -> bool
 
 fn check_mark<F: Field>(ends: Ends, marks: &[u8], i: usize) -> Result<(), LineFault>
     requires { i < length marks.now }
-    ensures { result ≡ unless (mark_fault algebra ends.first ends.second (take i marks.now) i (slice_index marks.now i)) (Ok tt) }
+    ensures { result ≡ unless (mark_fault F.algebra ends.first ends.second (take i marks.now) i (slice_index marks.now i)) (Ok tt) }
 {
     let t = marks[i];
     if t < 1 || t > F::size() {
@@ -111,7 +111,7 @@ fn check_mark<F: Field>(ends: Ends, marks: &[u8], i: usize) -> Result<(), LineFa
 }
 
 fn check_marks<F: Field>(ends: Ends, marks: &[u8]) -> Result<(), LineFault>
-    ensures { result ≡ unless (marks_fault algebra ends.first ends.second [] 0 marks.now) (Ok tt) }
+    ensures { result ≡ unless (marks_fault F.algebra ends.first ends.second [] 0 marks.now) (Ok tt) }
 {
     for i in 0..marks.len() {
         check_mark::<F>(ends, marks, i)?;
@@ -121,7 +121,7 @@ fn check_marks<F: Field>(ends: Ends, marks: &[u8]) -> Result<(), LineFault>
 
 // Whether a line through w in the direction v may be asked for at the marks.
 pub fn check_line<F: Field>(shape: Shape, w: usize, v: usize, marks: &[u8]) -> Result<(), LineFault>
-    ensures { result ≡ unless (ask_fault algebra shape.q shape.m shape.d w v marks.now) (Ok tt) }
+    ensures { result ≡ unless (ask_fault F.algebra shape.q shape.m shape.d w v marks.now) (Ok tt) }
 {
     let ends = ends::<F>(shape, w, v)?;
     if marks.len() <= shape.d {

@@ -21,12 +21,12 @@ fn gathered_answer<F: Field, S: Store>(
     v: usize,
     marks: &[u8],
 ) -> Result<AnsweredLine, AnswerFault>
-    requires { ask_fault algebra shape.q shape.m shape.d w v marks.now ≡ None }
-    ensures answer { Answers algebra shape.d (line_readings algebra shape.m (S.Store.meaning store.old).entries w v marks.now) result }
-    ensures fair { (form : List ℕ) → form_fault algebra shape.q shape.m shape.d form ≡ None → Fair algebra shape.m shape.d form (S.Store.meaning store.old).entries w v marks.now → result ≡ Ok (restored algebra shape.m shape.d form (S.Store.meaning store.old).entries w v marks.now) }
-    ensures same { S.Store.meaning store.new ≡ S.Store.meaning store.old }
-    ensures kept { S.Store.kept store.new ≡ S.Store.kept store.old }
-    ensures lent { S.Store.lent store.new ≡ S.Store.lent store.old }
+    requires { ask_fault F.algebra shape.q shape.m shape.d w v marks.now ≡ None }
+    ensures answer { Answers F.algebra shape.d (line_readings F.algebra shape.m (S.meaning store.old).entries w v marks.now) result }
+    ensures fair { (form : List ℕ) → form_fault F.algebra shape.q shape.m shape.d form ≡ None → Fair F.algebra shape.m shape.d form (S.meaning store.old).entries w v marks.now → result ≡ Ok (restored F.algebra shape.m shape.d form (S.meaning store.old).entries w v marks.now) }
+    ensures same { S.meaning store.new ≡ S.meaning store.old }
+    ensures kept { S.kept store.new ≡ S.kept store.old }
+    ensures lent { S.lent store.new ≡ S.lent store.old }
 {
     let asked = AskedLine::<F>::new(shape, w, v, marks);
     let gathered = asked.gather(store);
@@ -41,11 +41,11 @@ pub fn correct<F: Field, S: Store>(
     v: usize,
     marks: &[u8],
 ) -> Result<AnsweredLine, LineFault>
-    ensures answer { Corrects algebra shape.q shape.m shape.d (S.Store.meaning store.old).entries w v marks.now result }
-    ensures fair { FairRestored algebra shape.q shape.m shape.d (S.Store.meaning store.old).entries w v marks.now result }
-    ensures same { S.Store.meaning store.new ≡ S.Store.meaning store.old }
-    ensures kept { S.Store.kept store.new ≡ S.Store.kept store.old }
-    ensures lent { S.Store.lent store.new ≡ S.Store.lent store.old }
+    ensures answer { Corrects F.algebra shape.q shape.m shape.d (S.meaning store.old).entries w v marks.now result }
+    ensures fair { FairRestored F.algebra shape.q shape.m shape.d (S.meaning store.old).entries w v marks.now result }
+    ensures same { S.meaning store.new ≡ S.meaning store.old }
+    ensures kept { S.kept store.new ≡ S.kept store.old }
+    ensures lent { S.lent store.new ≡ S.lent store.old }
 {
     check_line::<F>(shape, w, v, marks)?;
     let answered = gathered_answer::<F, S>(shape, store, w, v, marks)?;

@@ -17,10 +17,10 @@ use std::marker::PhantomData;
 
 // Where mark t is read.
 fn target<F: Field>(shape: Shape, ends: Ends, t: u8) -> Target
-    requires same { shape.q ≡ algebra.size }
+    requires same { shape.q ≡ F.algebra.size }
     requires normal { Normal shape.q shape.m ends.first × Normal shape.q shape.m ends.second }
-    requires somewhere { 0 < divisor (point_on algebra ends.first ends.second t) }
-    ensures { result ≡ target_at algebra shape.m ends.first ends.second t }
+    requires somewhere { 0 < divisor (point_on F.algebra ends.first ends.second t) }
+    ensures { result ≡ target_at F.algebra shape.m ends.first ends.second t }
 {
     match locate::<F>(shape, point_on::<F>(ends, t)) {
         Ok(location) => Target {
@@ -58,10 +58,10 @@ fn no_readings() -> [Reading; POINTS]
 
 // What is read at a target.
 fn read_target<S: Store>(store: &mut S, q: u8, target: Target) -> Reading
-    ensures reading { result ≡ reading_of q (S.Store.meaning store.old).entries target }
-    ensures same { S.Store.meaning store.new ≡ S.Store.meaning store.old }
-    ensures kept { S.Store.kept store.new ≡ S.Store.kept store.old }
-    ensures lent { S.Store.lent store.new ≡ S.Store.lent store.old }
+    ensures reading { result ≡ reading_of q (S.meaning store.old).entries target }
+    ensures same { S.meaning store.new ≡ S.meaning store.old }
+    ensures kept { S.kept store.new ≡ S.kept store.old }
+    ensures lent { S.lent store.new ≡ S.lent store.old }
 {
     let entry = match store.read(target.place) {
         Ok(entry) => seen(q, entry),
@@ -87,11 +87,11 @@ fn seen(q: u8, entry: Entry) -> Entry
 impl<F: Field> AskedLine<F> {
     // A line to be read at each of the marks.
     fn at_marks(shape: Shape, ends: Ends, marks: &[u8]) -> AskedLine<F>
-        requires same { shape.q ≡ algebra.size }
+        requires same { shape.q ≡ F.algebra.size }
         requires normal { Normal shape.q shape.m ends.first × Normal shape.q shape.m ends.second }
         requires few { length marks.now ≤ points_most }
-        requires sound { marks_fault algebra ends.first ends.second [] 0 marks.now ≡ None }
-        ensures targets { targets_of result ≡ map (target_at algebra shape.m ends.first ends.second) marks.now }
+        requires sound { marks_fault F.algebra ends.first ends.second [] 0 marks.now ≡ None }
+        ensures targets { targets_of result ≡ map (target_at F.algebra shape.m ends.first ends.second) marks.now }
         ensures degree { result.d ≡ shape.d }
     {
         let mut targets = no_targets();
@@ -108,7 +108,7 @@ impl<F: Field> AskedLine<F> {
 
     // The line through w in the direction v, to be read at the marks. It never refuses: where the line may not be asked for, it has no marks.
     pub fn new(shape: Shape, w: usize, v: usize, marks: &[u8]) -> AskedLine<F>
-        ensures targets { targets_of result ≡ asked_targets algebra shape.q shape.m shape.d w v marks.now }
+        ensures targets { targets_of result ≡ asked_targets F.algebra shape.q shape.m shape.d w v marks.now }
         ensures degree { result.d ≡ shape.d }
     {
         if check_line::<F>(shape, w, v, marks).is_ok() {
@@ -126,11 +126,11 @@ impl<F: Field> AskedLine<F> {
 
     // Reads the cells of the line. It changes none.
     pub fn gather<S: Store>(self, store: &mut S) -> GatheredLine<F>
-        ensures readings { readings_of result ≡ map (reading_of algebra.size (S.Store.meaning store.old).entries) (targets_of self) }
+        ensures readings { readings_of result ≡ map (reading_of F.algebra.size (S.meaning store.old).entries) (targets_of self) }
         ensures degree { result.d ≡ self.d }
-        ensures same { S.Store.meaning store.new ≡ S.Store.meaning store.old }
-        ensures kept { S.Store.kept store.new ≡ S.Store.kept store.old }
-        ensures lent { S.Store.lent store.new ≡ S.Store.lent store.old }
+        ensures same { S.meaning store.new ≡ S.meaning store.old }
+        ensures kept { S.kept store.new ≡ S.kept store.old }
+        ensures lent { S.lent store.new ≡ S.lent store.old }
     {
         let AskedLine {
             d,
@@ -154,9 +154,9 @@ impl<F: Field> AskedLine<F> {
 impl<F: Field> GatheredLine<F> {
     // The symbol at the line's first place, and which readings are wrong or missing.
     pub fn answer(self) -> Result<AnsweredLine, AnswerFault>
-        ensures answer { Answers algebra self.d (usable algebra.size (readings_of self)) result }
-        ensures one { OneExplains algebra self.d (usable algebra.size (readings_of self)) }
-        ensures near { NearAnswered algebra self.d (usable algebra.size (readings_of self)) result }
+        ensures answer { Answers F.algebra self.d (usable F.algebra.size (readings_of self)) result }
+        ensures one { OneExplains F.algebra self.d (usable F.algebra.size (readings_of self)) }
+        ensures near { NearAnswered F.algebra self.d (usable F.algebra.size (readings_of self)) result }
     {
         let GatheredLine {
             d,

@@ -31,10 +31,10 @@ fn put_and_return<S: WritableStore>(
     pair: StridePair,
     symbols: &[u8],
 ) -> (S, Result<(), StoreFault>)
-    ensures answer { result.1 ≡ put_all_answer (pile_meaning (S.Store.meaning store) start len pair.n pair.step) symbols.now }
-    ensures done { S.Store.meaning result.0 ≡ piled (S.Store.meaning store) start len pair.n pair.step symbols.now }
-    ensures kept { S.Store.kept result.0 ≡ S.Store.kept store }
-    ensures lent { S.Store.lent result.0 ≡ S.Store.lent store }
+    ensures answer { result.1 ≡ put_all_answer (pile_meaning (S.meaning store) start len pair.n pair.step) symbols.now }
+    ensures done { S.meaning result.0 ≡ piled (S.meaning store) start len pair.n pair.step symbols.now }
+    ensures kept { S.kept result.0 ≡ S.kept store }
+    ensures lent { S.lent result.0 ≡ S.lent store }
 {
     let mut pile = pile_over(store, start, len, pair);
     let answer = put_all(&mut pile, symbols);
@@ -49,10 +49,10 @@ pub fn put_through<S: WritableStore + Default + Drop>(
     pair: StridePair,
     symbols: &[u8],
 ) -> Result<(), StoreFault>
-    ensures answer { result ≡ put_all_answer (pile_meaning (S.Store.meaning store.old) start len pair.n pair.step) symbols.now }
-    ensures done { S.Store.meaning store.new ≡ piled (S.Store.meaning store.old) start len pair.n pair.step symbols.now }
-    ensures kept { S.Store.kept store.new ≡ S.Store.kept store.old }
-    ensures lent { S.Store.lent store.new ≡ S.Store.lent store.old }
+    ensures answer { result ≡ put_all_answer (pile_meaning (S.meaning store.old) start len pair.n pair.step) symbols.now }
+    ensures done { S.meaning store.new ≡ piled (S.meaning store.old) start len pair.n pair.step symbols.now }
+    ensures kept { S.kept store.new ≡ S.kept store.old }
+    ensures lent { S.lent store.new ≡ S.lent store.old }
 {
     let (back, answer) = put_and_return(std::mem::take(store), start, len, pair, symbols);
     *store = back;

@@ -22,13 +22,13 @@ fn answer_line<F: Field, S: Store>(
     v: usize,
     marks: &[u8],
 ) -> Result<AnsweredLine, PlateFault>
-    requires { is_fit (setting_of algebra shape (S.Store.meaning store.old)) ≡ true }
-    ensures acts { Acts algebra shape (S.Store.meaning store.old) (CorrectRequest w v marks.now) (corrected result) (S.Store.meaning store.new) }
-    ensures same { S.Store.meaning store.new ≡ S.Store.meaning store.old }
-    ensures fitting { CanPut (S.Store.meaning store.old) w result }
-    ensures mends { Mends algebra shape (S.Store.meaning store.old) w v marks.now result }
-    ensures kept { S.Store.kept store.new ≡ S.Store.kept store.old }
-    ensures lent { S.Store.lent store.new ≡ S.Store.lent store.old }
+    requires { is_fit (setting_of F.algebra shape (S.meaning store.old)) ≡ true }
+    ensures acts { Acts F.algebra shape (S.meaning store.old) (CorrectRequest w v marks.now) (corrected result) (S.meaning store.new) }
+    ensures same { S.meaning store.new ≡ S.meaning store.old }
+    ensures fitting { CanPut (S.meaning store.old) w result }
+    ensures mends { Mends F.algebra shape (S.meaning store.old) w v marks.now result }
+    ensures kept { S.kept store.new ≡ S.kept store.old }
+    ensures lent { S.lent store.new ≡ S.lent store.old }
 {
     let answered = correct::<F, S>(shape, store, w, v, marks)?;
     Ok(answered)
@@ -60,7 +60,7 @@ impl<F: Field, S: Store> Plate<F, S> {
 
     // Whether the field, the shape and the store are made for each other.
     pub fn fits(&self) -> bool
-        ensures { result ≡ is_fit (setting_of algebra self.now.shape (S.Store.meaning self.now.store)) }
+        ensures { result ≡ is_fit (setting_of F.algebra self.now.shape (S.meaning self.now.store)) }
     {
         self.shape.q == F::size()
             && self.store.count() == self.shape.n
@@ -68,7 +68,7 @@ impl<F: Field, S: Store> Plate<F, S> {
     }
 
     pub(crate) fn check_fit(&self) -> Result<(), PlateFault>
-        ensures { result ≡ (if is_fit (setting_of algebra self.now.shape (S.Store.meaning self.now.store)) then Ok tt else Err Unfit) }
+        ensures { result ≡ (if is_fit (setting_of F.algebra self.now.shape (S.meaning self.now.store)) then Ok tt else Err Unfit) }
     {
         if self.fits() {
             Ok(())
@@ -79,10 +79,10 @@ impl<F: Field, S: Store> Plate<F, S> {
 
     // Tells one entry.
     pub fn read(&mut self, place: usize) -> Result<Entry, PlateFault>
-        ensures acts { Acts algebra self.old.shape (S.Store.meaning self.old.store) (ReadRequest place) (told result) (S.Store.meaning self.new.store) }
+        ensures acts { Acts F.algebra self.old.shape (S.meaning self.old.store) (ReadRequest place) (told result) (S.meaning self.new.store) }
         ensures shape { self.new.shape ≡ self.old.shape }
-        ensures kept { S.Store.kept self.new.store ≡ S.Store.kept self.old.store }
-        ensures lent { S.Store.lent self.new.store ≡ S.Store.lent self.old.store }
+        ensures kept { S.kept self.new.store ≡ S.kept self.old.store }
+        ensures lent { S.lent self.new.store ≡ S.lent self.old.store }
     {
         self.check_fit()?;
         let entry = self.store.read(place)?;
@@ -96,13 +96,13 @@ impl<F: Field, S: Store> Plate<F, S> {
         v: usize,
         marks: &[u8],
     ) -> Result<AnsweredLine, PlateFault>
-        ensures acts { Acts algebra self.old.shape (S.Store.meaning self.old.store) (CorrectRequest w v marks.now) (corrected result) (S.Store.meaning self.new.store) }
-        ensures same { S.Store.meaning self.new.store ≡ S.Store.meaning self.old.store }
-        ensures fitting { CanPut (S.Store.meaning self.old.store) w result }
-        ensures mends { Mends algebra self.old.shape (S.Store.meaning self.old.store) w v marks.now result }
+        ensures acts { Acts F.algebra self.old.shape (S.meaning self.old.store) (CorrectRequest w v marks.now) (corrected result) (S.meaning self.new.store) }
+        ensures same { S.meaning self.new.store ≡ S.meaning self.old.store }
+        ensures fitting { CanPut (S.meaning self.old.store) w result }
+        ensures mends { Mends F.algebra self.old.shape (S.meaning self.old.store) w v marks.now result }
         ensures shape { self.new.shape ≡ self.old.shape }
-        ensures kept { S.Store.kept self.new.store ≡ S.Store.kept self.old.store }
-        ensures lent { S.Store.lent self.new.store ≡ S.Store.lent self.old.store }
+        ensures kept { S.kept self.new.store ≡ S.kept self.old.store }
+        ensures lent { S.lent self.new.store ≡ S.lent self.old.store }
     {
         self.check_fit()?;
         answer_line::<F, S>(self.shape, &mut self.store, w, v, marks)
@@ -110,10 +110,10 @@ impl<F: Field, S: Store> Plate<F, S> {
 
     // Works out the symbol at the place w from the line in the direction v.
     pub fn correct(&mut self, w: usize, v: usize, marks: &[u8]) -> Result<AnsweredLine, PlateFault>
-        ensures acts { Acts algebra self.old.shape (S.Store.meaning self.old.store) (CorrectRequest w v marks.now) (corrected result) (S.Store.meaning self.new.store) }
+        ensures acts { Acts F.algebra self.old.shape (S.meaning self.old.store) (CorrectRequest w v marks.now) (corrected result) (S.meaning self.new.store) }
         ensures shape { self.new.shape ≡ self.old.shape }
-        ensures kept { S.Store.kept self.new.store ≡ S.Store.kept self.old.store }
-        ensures lent { S.Store.lent self.new.store ≡ S.Store.lent self.old.store }
+        ensures kept { S.kept self.new.store ≡ S.kept self.old.store }
+        ensures lent { S.lent self.new.store ≡ S.lent self.old.store }
     {
         self.answer(w, v, marks)
     }

@@ -20,10 +20,10 @@ use readings::AnsweredLine;
 impl<F: Field, S: WritableStore> Plate<F, S> {
     // Puts or wipes one entry.
     pub fn spoil(&mut self, place: usize, entry: Entry) -> Result<(), PlateFault>
-        ensures acts { Acts algebra self.old.shape (S.Store.meaning self.old.store) (SpoilRequest place entry) (done result) (S.Store.meaning self.new.store) }
+        ensures acts { Acts F.algebra self.old.shape (S.meaning self.old.store) (SpoilRequest place entry) (done result) (S.meaning self.new.store) }
         ensures shape { self.new.shape ≡ self.old.shape }
-        ensures kept { S.Store.kept self.new.store ≡ S.Store.kept self.old.store }
-        ensures lent { S.Store.lent self.new.store ≡ S.Store.lent self.old.store }
+        ensures kept { S.kept self.new.store ≡ S.kept self.old.store }
+        ensures lent { S.lent self.new.store ≡ S.lent self.old.store }
     {
         self.check_fit()?;
         match entry {
@@ -35,14 +35,14 @@ impl<F: Field, S: WritableStore> Plate<F, S> {
 
     // Puts the form's symbol at one place.
     fn burn_place(&mut self, form: &Form, place: usize) -> Result<(), PlateFault>
-        requires fit { is_fit (setting_of algebra self.old.shape (S.Store.meaning self.old.store)) ≡ true }
-        requires form { (form.now.shape ≡ self.old.shape) × (check_answer algebra form.now ≡ Ok tt) }
+        requires fit { is_fit (setting_of F.algebra self.old.shape (S.meaning self.old.store)) ≡ true }
+        requires form { (form.now.shape ≡ self.old.shape) × (check_answer F.algebra form.now ≡ Ok tt) }
         requires place { place < self.old.shape.n }
         ensures accepted { result ≡ Ok tt }
-        ensures put { S.Store.meaning self.new.store ≡ with_entry (S.Store.meaning self.old.store) place (Symbol (symbol_at algebra self.old.shape.m self.old.shape.d form.now.coefficients.now place)) }
+        ensures put { S.meaning self.new.store ≡ with_entry (S.meaning self.old.store) place (Symbol (symbol_at F.algebra self.old.shape.m self.old.shape.d form.now.coefficients.now place)) }
         ensures shape { self.new.shape ≡ self.old.shape }
-        ensures kept { S.Store.kept self.new.store ≡ S.Store.kept self.old.store }
-        ensures lent { S.Store.lent self.new.store ≡ S.Store.lent self.old.store }
+        ensures kept { S.kept self.new.store ≡ S.kept self.old.store }
+        ensures lent { S.lent self.new.store ≡ S.lent self.old.store }
     {
         let symbol = form.symbol::<F>(place)?;
         self.store.put(place, symbol)?;
@@ -51,14 +51,14 @@ impl<F: Field, S: WritableStore> Plate<F, S> {
 
     // Puts the form's symbols at all places.
     fn burn_places(&mut self, form: &Form) -> Result<(), PlateFault>
-        requires fit { is_fit (setting_of algebra self.old.shape (S.Store.meaning self.old.store)) ≡ true }
-        requires form { (form.now.shape ≡ self.old.shape) × (check_answer algebra form.now ≡ Ok tt) }
+        requires fit { is_fit (setting_of F.algebra self.old.shape (S.meaning self.old.store)) ≡ true }
+        requires form { (form.now.shape ≡ self.old.shape) × (check_answer F.algebra form.now ≡ Ok tt) }
         ensures accepted { result ≡ Ok tt }
-        ensures cells { (S.Store.meaning self.new.store).entries ≡ codeword (setting_of algebra self.old.shape (S.Store.meaning self.old.store)) form.now.coefficients.now }
-        ensures alphabet { (S.Store.meaning self.new.store).alphabet ≡ (S.Store.meaning self.old.store).alphabet }
+        ensures cells { (S.meaning self.new.store).entries ≡ codeword (setting_of F.algebra self.old.shape (S.meaning self.old.store)) form.now.coefficients.now }
+        ensures alphabet { (S.meaning self.new.store).alphabet ≡ (S.meaning self.old.store).alphabet }
         ensures shape { self.new.shape ≡ self.old.shape }
-        ensures kept { S.Store.kept self.new.store ≡ S.Store.kept self.old.store }
-        ensures lent { S.Store.lent self.new.store ≡ S.Store.lent self.old.store }
+        ensures kept { S.kept self.new.store ≡ S.kept self.old.store }
+        ensures lent { S.lent self.new.store ≡ S.lent self.old.store }
     {
         for place in 0..self.shape.n {
             self.burn_place(form, place)?;
@@ -68,10 +68,10 @@ impl<F: Field, S: WritableStore> Plate<F, S> {
 
     // Puts the form's value at the normal point of each place.
     pub fn burn(&mut self, coefficients: &[u8]) -> Result<(), PlateFault>
-        ensures acts { Acts algebra self.old.shape (S.Store.meaning self.old.store) (BurnRequest coefficients.now) (done result) (S.Store.meaning self.new.store) }
+        ensures acts { Acts F.algebra self.old.shape (S.meaning self.old.store) (BurnRequest coefficients.now) (done result) (S.meaning self.new.store) }
         ensures shape { self.new.shape ≡ self.old.shape }
-        ensures kept { S.Store.kept self.new.store ≡ S.Store.kept self.old.store }
-        ensures lent { S.Store.lent self.new.store ≡ S.Store.lent self.old.store }
+        ensures kept { S.kept self.new.store ≡ S.kept self.old.store }
+        ensures lent { S.lent self.new.store ≡ S.lent self.old.store }
     {
         self.check_fit()?;
         let form = Form::new(self.shape, coefficients);
@@ -81,10 +81,10 @@ impl<F: Field, S: WritableStore> Plate<F, S> {
 
     // Corrects the place w, and puts the symbol there.
     pub fn mend(&mut self, w: usize, v: usize, marks: &[u8]) -> Result<AnsweredLine, PlateFault>
-        ensures acts { Acts algebra self.old.shape (S.Store.meaning self.old.store) (MendRequest w v marks.now) (corrected result) (S.Store.meaning self.new.store) }
+        ensures acts { Acts F.algebra self.old.shape (S.meaning self.old.store) (MendRequest w v marks.now) (corrected result) (S.meaning self.new.store) }
         ensures shape { self.new.shape ≡ self.old.shape }
-        ensures kept { S.Store.kept self.new.store ≡ S.Store.kept self.old.store }
-        ensures lent { S.Store.lent self.new.store ≡ S.Store.lent self.old.store }
+        ensures kept { S.kept self.new.store ≡ S.kept self.old.store }
+        ensures lent { S.lent self.new.store ≡ S.lent self.old.store }
     {
         let answered = self.answer(w, v, marks)?;
         self.store.put(w, answered.symbol)?;
@@ -93,10 +93,10 @@ impl<F: Field, S: WritableStore> Plate<F, S> {
 
     // Makes one call.
     pub fn call(&mut self, call: &Call) -> Result<Reply, PlateFault>
-        ensures acts { Acts algebra self.old.shape (S.Store.meaning self.old.store) (request call.now) result (S.Store.meaning self.new.store) }
+        ensures acts { Acts F.algebra self.old.shape (S.meaning self.old.store) (request call.now) result (S.meaning self.new.store) }
         ensures shape { self.new.shape ≡ self.old.shape }
-        ensures kept { S.Store.kept self.new.store ≡ S.Store.kept self.old.store }
-        ensures lent { S.Store.lent self.new.store ≡ S.Store.lent self.old.store }
+        ensures kept { S.kept self.new.store ≡ S.kept self.old.store }
+        ensures lent { S.lent self.new.store ≡ S.lent self.old.store }
     {
         match call {
             Call::Burn(coefficients) => {

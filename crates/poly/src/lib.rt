@@ -9,7 +9,7 @@ use field::Field;
 
 // The value at x.
 pub fn evaluate<F: Field>(coefficients: &[u8], x: u8) -> u8
-    ensures { result ≡ eval (ops algebra) coefficients.now x }
+    ensures { result ≡ eval (ops F.algebra) coefficients.now x }
 {
     let mut total = 0;
     for k in (0..coefficients.len()).rev() {

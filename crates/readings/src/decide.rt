@@ -28,10 +28,10 @@ impl Fault for AnswerFault {
 // The answer of readings whose marks can be told apart.
 fn decide<F: Field>(d: usize, readings: &[Reading]) -> Result<AnsweredLine, AnswerFault>
     requires few { length readings.now ≤ points_most }
-    requires marks { marked algebra.size readings.now ≡ true }
-    ensures answer { Answers algebra d readings.now result }
-    ensures one { OneExplains algebra d readings.now }
-    ensures near { NearAnswered algebra d readings.now result }
+    requires marks { marked F.algebra.size readings.now ≡ true }
+    ensures answer { Answers F.algebra d readings.now result }
+    ensures one { OneExplains F.algebra d readings.now }
+    ensures near { NearAnswered F.algebra d readings.now result }
 {
     let points = points::<F>(d, readings);
     let read = points.count;
@@ -51,9 +51,9 @@ fn decide<F: Field>(d: usize, readings: &[Reading]) -> Result<AnsweredLine, Answ
 // What the readings of a line say of the symbol at its first place, where H is the polynomial of degree at most d along the line.
 // Readings whose marks cannot be told apart, or that are too many, count as none.
 pub fn answer<F: Field>(d: usize, readings: &[Reading]) -> Result<AnsweredLine, AnswerFault>
-    ensures answer { Answers algebra d (usable algebra.size readings.now) result }
-    ensures one { OneExplains algebra d (usable algebra.size readings.now) }
-    ensures near { NearAnswered algebra d (usable algebra.size readings.now) result }
+    ensures answer { Answers F.algebra d (usable F.algebra.size readings.now) result }
+    ensures one { OneExplains F.algebra d (usable F.algebra.size readings.now) }
+    ensures near { NearAnswered F.algebra d (usable F.algebra.size readings.now) result }
 {
     if readings.len() > POINTS || !tellable(F::size(), readings) {
         return decide::<F>(d, &readings[0..0]);

@@ -42,7 +42,7 @@ pub(crate) fn missing_marks(readings: &[Reading]) -> u32
 
 // Whether a symbol was read, and the polynomial does not go through its point.
 fn misses<F: Field>(d: usize, g: &[u8], reading: Reading) -> bool
-    ensures { result ≡ misses_reading algebra d g.now reading }
+    ensures { result ≡ misses_reading F.algebra d g.now reading }
 {
     match reading.entry {
         Entry::Symbol(y) => {
@@ -56,7 +56,7 @@ fn misses<F: Field>(d: usize, g: &[u8], reading: Reading) -> bool
 // The readings whose points the polynomial misses.
 pub(crate) fn wrong_marks<F: Field>(d: usize, g: &[u8], readings: &[Reading]) -> u32
     requires { length readings.now ≤ 32 }
-    ensures { result ≡ bits (map (misses_reading algebra d g.now) readings.now) }
+    ensures { result ≡ bits (map (misses_reading F.algebra d g.now) readings.now) }
 {
     let mut marks = 0;
     for i in 0..readings.len() {

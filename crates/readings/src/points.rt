@@ -11,7 +11,7 @@ use field::{Field, power};
 
 // 1 / t, and 0 where t has no inverse.
 fn over_mark<F: Field>(t: u8) -> u8
-    ensures { result ≡ over_mark algebra t }
+    ensures { result ≡ over_mark F.algebra t }
 {
     match F::inv(t) {
         Some(over) => over,
@@ -21,7 +21,7 @@ fn over_mark<F: Field>(t: u8) -> u8
 
 // The point of a reading with the symbol y.
 pub(crate) fn point<F: Field>(d: usize, reading: Reading, y: u8) -> (u8, u8)
-    ensures { result ≡ point_of algebra d reading y }
+    ensures { result ≡ point_of F.algebra d reading y }
 {
     let value = F::mul(power::<F>(reading.divisor, d), y);
     if reading.mark == F::size() {
@@ -40,7 +40,7 @@ fn no_points() -> [(u8, u8); POINTS]
 // The points of the symbols that were read.
 pub(crate) fn points<F: Field>(d: usize, readings: &[Reading]) -> PointList
     requires { length readings.now ≤ points_most }
-    ensures { take result.count result.items ≡ points_of algebra d readings.now }
+    ensures { take result.count result.items ≡ points_of F.algebra d readings.now }
 {
     let mut items = no_points();
     let mut count = 0;

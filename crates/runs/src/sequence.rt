@@ -15,12 +15,12 @@ pub fn run<F: Field, S: WritableStore>(
     calls: &[Call],
 ) -> Result<Vec<Result<Reply, PlateFault>>, AllocError>
     ensures law { MatchResult result
-        (λ said. LawfulRun (setting_of algebra plate.old.shape (S.Store.meaning plate.old.store)) (S.Store.meaning plate.old.store).entries (map request calls.now) said.items (S.Store.meaning plate.new.store).entries)
-        (λ _. S.Store.meaning plate.new.store ≡ S.Store.meaning plate.old.store) }
-    ensures alphabet { (S.Store.meaning plate.new.store).alphabet ≡ (S.Store.meaning plate.old.store).alphabet }
+        (λ said. LawfulRun (setting_of F.algebra plate.old.shape (S.meaning plate.old.store)) (S.meaning plate.old.store).entries (map request calls.now) said.items (S.meaning plate.new.store).entries)
+        (λ _. S.meaning plate.new.store ≡ S.meaning plate.old.store) }
+    ensures alphabet { (S.meaning plate.new.store).alphabet ≡ (S.meaning plate.old.store).alphabet }
     ensures shape { plate.new.shape ≡ plate.old.shape }
-    ensures kept { S.Store.kept plate.new.store ≡ S.Store.kept plate.old.store }
-    ensures lent { S.Store.lent plate.new.store ≡ S.Store.lent plate.old.store }
+    ensures kept { S.kept plate.new.store ≡ S.kept plate.old.store }
+    ensures lent { S.lent plate.new.store ≡ S.lent plate.old.store }
 {
     let mut answers = Vec::with_capacity(heap, calls.len())?;
     for call in calls {

@@ -31,14 +31,14 @@ impl Fault for PointFault {
 
 // The point w + t v.
 pub fn combine<F: Field>(w: [u8; 4], t: u8, v: [u8; 4]) -> [u8; 4]
-    ensures { result ≡ along (ops algebra) w v t }
+    ensures { result ≡ along (ops F.algebra) w v t }
 {
     sum::<F>(w, scale::<F>(t, v))
 }
 
 // The point over its divisor; none where the divisor has no inverse.
 pub fn normalise<F: Field>(p: [u8; 4]) -> Option<NormalForm>
-    ensures { result ≡ normal_form algebra p }
+    ensures { result ≡ normal_form F.algebra p }
 {
     let divisor = divisor_of(p);
     match F::inv(divisor) {
@@ -53,8 +53,8 @@ pub fn normalise<F: Field>(p: [u8; 4]) -> Option<NormalForm>
 // The normal form of a point of the shape: only the point 0 has none.
 fn normal_of<F: Field>(shape: Shape, p: [u8; 4]) -> Option<NormalForm>
     requires point { Point shape.q shape.m p }
-    requires same { shape.q ≡ algebra.size }
-    ensures { NormalAnswer algebra shape.m p result }
+    requires same { shape.q ≡ F.algebra.size }
+    ensures { NormalAnswer F.algebra shape.m p result }
 {
     normalise::<F>(p)
 }
@@ -81,8 +81,8 @@ fn first_bad(shape: Shape, p: [u8; 4]) -> Option<usize>
 
 // Whether the point is one of the shape, over the shape's field.
 pub fn check_point<F: Field>(shape: Shape, p: [u8; 4]) -> Result<(), PointFault>
-    ensures answer { result ≡ at_point algebra shape.q shape.m p (Ok tt) }
-    ensures good { OnOk result ((shape.q ≡ algebra.size) × Point shape.q shape.m p) }
+    ensures answer { result ≡ at_point F.algebra shape.q shape.m p (Ok tt) }
+    ensures good { OnOk result ((shape.q ≡ F.algebra.size) × Point shape.q shape.m p) }
 {
     if shape.q != F::size() {
         return Err(PointFault::OtherField);
@@ -95,8 +95,8 @@ pub fn check_point<F: Field>(shape: Shape, p: [u8; 4]) -> Result<(), PointFault>
 
 // The place of a point's normal form, and the divisor.
 pub fn locate<F: Field>(shape: Shape, p: [u8; 4]) -> Result<Location, PointFault>
-    ensures answer { result ≡ location algebra shape.q shape.m p }
-    ensures stands { IfOk result (Stands algebra shape.q shape.m p) }
+    ensures answer { result ≡ location F.algebra shape.q shape.m p }
+    ensures stands { IfOk result (Stands F.algebra shape.q shape.m p) }
 {
     check_point::<F>(shape, p)?;
     match normal_of::<F>(shape, p) {
@@ -110,8 +110,8 @@ pub fn locate<F: Field>(shape: Shape, p: [u8; 4]) -> Result<Location, PointFault
 
 // The place of a point's normal form.
 pub fn place_of<F: Field>(shape: Shape, p: [u8; 4]) -> Result<usize, PointFault>
-    ensures answer { result ≡ place_answer algebra shape.q shape.m p }
-    ensures back { IfOk result (λ i. (i < shape.n) × (point_of shape.q shape.m i ≡ normal algebra p)) }
+    ensures answer { result ≡ place_answer F.algebra shape.q shape.m p }
+    ensures back { IfOk result (λ i. (i < shape.n) × (point_of shape.q shape.m i ≡ normal F.algebra p)) }
 {
     let location = locate::<F>(shape, p)?;
     Ok(location.place)
@@ -119,7 +119,7 @@ pub fn place_of<F: Field>(shape: Shape, p: [u8; 4]) -> Result<usize, PointFault>
 
 // The normal point at a place.
 pub fn point_of<F: Field>(shape: Shape, place: usize) -> Result<[u8; 4], PointFault>
-    ensures answer { result ≡ point_answer algebra shape.q shape.m place }
+    ensures answer { result ≡ point_answer F.algebra shape.q shape.m place }
     ensures back { IfOk result (λ p. Normal shape.q shape.m p × (place_of shape.q shape.m p ≡ place)) }
 {
     if shape.q != F::size() {

@@ -93,14 +93,14 @@ pub fn divisor_of(p: [u8; 4]) -> u8
 }
 
 pub(crate) fn scale<F: Field>(k: u8, p: [u8; 4]) -> [u8; 4]
-    ensures { result ≡ scaled (ops algebra) k p }
+    ensures { result ≡ scaled (ops F.algebra) k p }
 {
     let [a, b, c, d] = p;
     [F::mul(k, a), F::mul(k, b), F::mul(k, c), F::mul(k, d)]
 }
 
 pub(crate) fn sum<F: Field>(p: [u8; 4], r: [u8; 4]) -> [u8; 4]
-    ensures { result ≡ add (ops algebra) p r }
+    ensures { result ≡ add (ops F.algebra) p r }
 {
     let [a, b, c, d] = p;
     let [e, f, g, h] = r;

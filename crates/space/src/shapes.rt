@@ -27,7 +27,7 @@ impl Fault for ShapeFault {
 impl Shape {
     // Forms of degree d over the field in the coordinates x0 to xm.
     pub fn new<F: Field>(m: usize, d: usize) -> Result<Shape, ShapeFault>
-        ensures { ShapeAnswer algebra.size m d result }
+        ensures { ShapeAnswer F.algebra.size m d result }
     {
         let q = F::size();
         let Some(column) = column_of(q) else {

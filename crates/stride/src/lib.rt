@@ -39,13 +39,13 @@ impl<S: Store> Stride<S> {
 
     // Where entry `i` lies below: a call there is a call here.
     fn place(&self, i: usize) -> Option<usize>
-        ensures { Passes (λ x. stride_meaning x self.now.pair.n self.now.pair.step) (λ x y. stride_kept x y self.now.pair.n self.now.pair.step) (S.Store.meaning self.now.below) (S.Store.kept self.now.below) i result }
+        ensures { Passes (λ x. stride_meaning x self.now.pair.n self.now.pair.step) (λ x y. stride_kept x y self.now.pair.n self.now.pair.step) (S.meaning self.now.below) (S.kept self.now.below) i result }
     {
         self.position(i)
     }
 
     fn position(&self, i: usize) -> Option<usize>
-        ensures { result ≡ place_in (stride_meaning (S.Store.meaning self.now.below) self.now.pair.n self.now.pair.step) i ((self.now.pair.step * i) % self.now.pair.n) }
+        ensures { result ≡ place_in (stride_meaning (S.meaning self.now.below) self.now.pair.n self.now.pair.step) i ((self.now.pair.step * i) % self.now.pair.n) }
     {
         if i < self.count() {
             Some(self.pair.step * i % self.pair.n)
@@ -63,13 +63,13 @@ fn shown(below: usize, n: usize) -> usize
 }
 
 impl<S: Store> Store for Stride<S> {
-    ghost meaning = { λ s. stride_meaning (S.Store.meaning s.below) s.pair.n s.pair.step };
+    ghost meaning = { λ s. stride_meaning (S.meaning s.below) s.pair.n s.pair.step };
 
-    ghost Kept = { StrideKept S.Store.Kept };
+    ghost Kept = { StrideKept S.Kept };
 
-    ghost kept = { λ s. stride_kept (S.Store.meaning s.below) (S.Store.kept s.below) s.pair.n s.pair.step };
+    ghost kept = { λ s. stride_kept (S.meaning s.below) (S.kept s.below) s.pair.n s.pair.step };
 
-    ghost lent = { λ s. S.Store.lent s.below };
+    ghost lent = { λ s. S.lent s.below };
 
     fn count(&self) -> usize {
         shown(self.below.count(), self.pair.n)
@@ -99,5 +99,5 @@ impl<S: WritableStore> WritableStore for Stride<S> {
 
 // What a stride means and what no call changes tell what the store below means and keeps. This call says so, and does nothing.
 pub fn below_stride_is_told<S: Store>()
-    ensures { StrideTold S.Store.Kept }
+    ensures { StrideTold S.Kept }
 {}

@@ -41,13 +41,13 @@ impl<S: Store> Window<S> {
 
     // Where entry `i` lies below: a call there is a call here.
     fn place(&self, i: usize) -> Option<usize>
-        ensures { Passes (λ x. window_meaning x self.now.start self.now.len) (λ x y. window_kept x y self.now.start self.now.len) (S.Store.meaning self.now.below) (S.Store.kept self.now.below) i result }
+        ensures { Passes (λ x. window_meaning x self.now.start self.now.len) (λ x y. window_kept x y self.now.start self.now.len) (S.meaning self.now.below) (S.kept self.now.below) i result }
     {
         self.position(i)
     }
 
     fn position(&self, i: usize) -> Option<usize>
-        ensures { result ≡ place_in (window_meaning (S.Store.meaning self.now.below) self.now.start self.now.len) i (self.now.start + i) }
+        ensures { result ≡ place_in (window_meaning (S.meaning self.now.below) self.now.start self.now.len) i (self.now.start + i) }
     {
         if i < self.count() {
             Some(self.start + i)
@@ -65,17 +65,17 @@ fn shown(below: usize, start: usize, len: usize) -> usize
 }
 
 impl<S: Store> Store for Window<S> {
-    ghost meaning = { λ w. window_meaning (S.Store.meaning w.below) w.start w.len };
+    ghost meaning = { λ w. window_meaning (S.meaning w.below) w.start w.len };
 
-    ghost Kept = { WindowKept S.Store.Kept };
+    ghost Kept = { WindowKept S.Kept };
 
-    ghost kept = { λ w. window_kept (S.Store.meaning w.below) (S.Store.kept w.below) w.start w.len };
+    ghost kept = { λ w. window_kept (S.meaning w.below) (S.kept w.below) w.start w.len };
 
-    ghost lent = { λ w. S.Store.lent w.below };
+    ghost lent = { λ w. S.lent w.below };
 
     fn count(&self) -> usize
-        ensures is { result ≡ count_of (window_meaning (S.Store.meaning self.now.below) self.now.start self.now.len) }
-        ensures sound { Sound (window_meaning (S.Store.meaning self.now.below) self.now.start self.now.len) }
+        ensures is { result ≡ count_of (window_meaning (S.meaning self.now.below) self.now.start self.now.len) }
+        ensures sound { Sound (window_meaning (S.meaning self.now.below) self.now.start self.now.len) }
         ensures room { 0 < result → self.now.start + result < 2 ^ 64 }
     {
         shown(self.below.count(), self.start, self.len)
@@ -105,5 +105,5 @@ impl<S: WritableStore> WritableStore for Window<S> {
 
 // What a window means and what no call changes tell what the store below means and keeps. This call says so, and does nothing.
 pub fn below_window_is_told<S: Store>()
-    ensures { WindowTold S.Store.Kept }
+    ensures { WindowTold S.Kept }
 {}

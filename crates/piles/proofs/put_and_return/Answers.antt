@@ -10,12 +10,12 @@ returns g c =
     let k = g.S.Store.kept store in
     let vs = c.args.symbols.now in
     let pair = c.args.pair in
-    let last = c.put-all-answer.new.store in
-    let e = c.put-all-answer.ensures in
-    let p = c.pile-over-pile.ensures in
+    let last = c.put_all_answer.new.store in
+    let e = c.put_all_answer.ensures in
+    let p = c.pile_over-pile.ensures in
     let same = same_pile _ m _ k _ c.args.start _ c.args.len _ pair.n _ pair.step
     (ap g.S.Store.meaning p.store) (ap g.S.Store.kept p.store) p.start p.len (ap (λ x. x.n) p.pair) (ap (λ x. x.step) p.pair) in
-    let back : c.into-below-2.result ≡ last.below.below = c.into-below-2.ensures ∙ ap (λ x. x.below) c.into-below.ensures in
+    let back : c.into_below-2.result ≡ last.below.below = c.into_below-2.ensures ∙ ap (λ x. x.below) c.into_below.ensures in
     let d = pile_done m (g.S.Store.meaning last.below.below) k (g.S.Store.kept last.below.below) c.args.start c.args.len pair.n pair.step last.below.start last.below.len last.pair.n last.pair.step vs
     (pair.some, pair.within, pair.most, pair.apart) (e.done ∙ ap (λ x. put_all_in x vs) same.meaning) (e.kept ∙ same.kept) in
     record {

@@ -8,7 +8,7 @@ use Rattle.piles.proofs.put_into_halves.Goals as goal
 
 pub returns : goal.returns
 returns c =
-    let e = c.put-through.ensures in
+    let e = c.put_through.ensures in
     let s = c.new-halves.ensures.same in
     let start = c.args.start in
     let len = c.args.len in
@@ -16,6 +16,6 @@ returns c =
     let vs = c.args.symbols.now in
     record {
       answer = e.answer ∙ ap (λ bs. put_all_answer (pile_meaning (half_meaning bs) start len pair.n pair.step) vs) s;
-      done = lender_told half_meaning half_kept half_row halves_told _ c.put-through.new.store.bytes.now _ _ (λ i. omega (arith, c.type-inv.bytes i)) (search rules)
+      done = lender_told half_meaning half_kept half_row halves_told _ c.put_through.new.store.bytes.now _ _ (λ i. omega (arith, c.type_inv.bytes i)) (search rules)
           (e.done ∙ ap (λ bs. piled (half_meaning bs) start len pair.n pair.step vs) s) (e.kept ∙ ap half_kept s);
     }

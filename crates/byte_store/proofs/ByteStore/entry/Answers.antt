@@ -6,4 +6,4 @@ pub bounds-self-i : goal.bounds-self-i
 bounds-self-i c = omega (arith, byte_count c.args.self.now.bytes.now)
 
 pub returns : goal.returns
-returns c = c.of-code.ensures ∙ sym (byte_at c.args.self.now.bytes.now c.args.i c.requires)
+returns c = c.of_code.ensures ∙ sym (byte_at c.args.self.now.bytes.now c.args.i c.requires)

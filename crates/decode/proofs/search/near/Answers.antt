@@ -2,15 +2,15 @@ use Rattle.std.proofs.Common.{◌≡◌, length, sym, refl, ap, ◌∙◌, subst
 use Rattle.decode.proofs.Final.{found_near, none_nearer, none_at_all}
 use Rattle.decode.proofs.search.near.Goals as goal
 
-pub returns-then-count-misses-points : goal.returns-then-count-misses-points
-returns-then-count-misses-points g c =
+pub returns-then-count_misses-points : goal.returns-then-count_misses-points
+returns-then-count_misses-points g c =
     found_near g.met.F.Field.lawful c.args.d c.args.points.now c.requires.0 c.solve-pair.result c.solve-pair.ensures (omega arith) (omega arith)
-    c.in-Some.g c.in-Some.ensures (omega (arith, c.count-misses.ensures, c.if-count-misses-points.true))
+    c.in-Some.g c.in-Some.ensures (omega (arith, c.count_misses.ensures, c.if-count_misses-points.true))
 
-pub returns-else-count-misses-points : goal.returns-else-count-misses-points
-returns-else-count-misses-points g c =
+pub returns-else-count_misses-points : goal.returns-else-count_misses-points
+returns-else-count_misses-points g c =
     none_nearer g.met.F.Field.lawful c.args.d c.args.points.now c.requires.0 c.solve-pair.result c.solve-pair.ensures (omega arith) (omega arith)
-    c.in-Some.g c.in-Some.ensures (omega (arith, c.count-misses.ensures, c.if-count-misses-points.false))
+    c.in-Some.g c.in-Some.ensures (omega (arith, c.count_misses.ensures, c.if-count_misses-points.false))
 
 pub returns-in-None : goal.returns-in-None
 returns-in-None g c =

@@ -7,4 +7,4 @@ pub bounds-self-i : goal.bounds-self-i
 bounds-self-i c = omega (arith, half_count c.args.self.now.bytes.now)
 
 pub returns : goal.returns
-returns c = c.of-code.ensures ∙ ap half_entry c.half-of.ensures ∙ sym (half_at c.args.self.now.bytes.now c.args.i c.requires)
+returns c = c.of_code.ensures ∙ ap half_entry c.half_of.ensures ∙ sym (half_at c.args.self.now.bytes.now c.args.i c.requires)

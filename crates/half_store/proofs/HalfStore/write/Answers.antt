@@ -17,7 +17,7 @@ returns c =
     let i = c.args.i in
     let e = c.args.entry in
     record {
-      done = ap (λ b. half_meaning (set bs (i / 2) b)) (c.with-half.ensures ∙ ap (with_half (get_or bs (i / 2) 0) (i % 2)) c.code.ensures)
+      done = ap (λ b. half_meaning (set bs (i / 2) b)) (c.with_half.ensures ∙ ap (with_half (get_or bs (i / 2) 0) (i % 2)) c.code.ensures)
           ∙ half_set bs i (entry_half e) c.requires.0 (omega (arith, code_most 15 e c.requires.1)) ∙ ap (with_entry (half_meaning bs) i) (code_again 15 e c.requires.1);
       kept = half_rest bs i _ c.requires.0;
       lent = refl;

@@ -13,6 +13,6 @@ returns-in-Err g c =
     let P : (p : _) → Point c.args.shape.q m p → Point F.size m p = λ p x. subst (λ n. Point n m p) c.requires.same x in
     let p = on-point L m c.args.t e.first e.second (P e.first c.requires.normal.0.point) (P e.second c.requires.normal.1.point) in
     let o = located L c.args.shape.q m _ c.requires.same p c.requires.somewhere in
-    let a = c.locate.ensures.answer ∙ ap (location F c.args.shape.q m) c.point-on.ensures ∙ o in
+    let a = c.locate.ensures.answer ∙ ap (location F c.args.shape.q m) c.point_on.ensures ∙ o in
     let i = c.in-Err.is in
     absurd (let z : ◌≡◌ {A = ℕ} 0 1 = cc in omega arith)

@@ -32,7 +32,7 @@ returns-in-Some g c =
     let D : List (ℕ × ℕ) → Type 0 = λ ps. DecodeAnswer F d ps (Some c.in-Some.g) in
     let f = subst D (ap (λ m. take m p.items) z ∙ c.points-points.ensures) c.in-Some.ensures in
     let enough : d < symbols_read rs = omega (arith, points_counted L d rs) in
-    let k = found_explains L d rs c.requires.marks c.in-Some.g f.1 enough _ _ _ refl c.wrong-marks.ensures c.missing-marks.ensures in
+    let k = found_explains L d rs c.requires.marks c.in-Some.g f.1 enough _ _ _ refl c.wrong_marks.ensures c.missing_marks.ensures in
     record { answer = k.answer; one = k.one; near = k.near }
 
 pub returns-in-None : goal.returns-in-None

@@ -9,14 +9,14 @@ returns-then-mark-lt1 c =
     (elim c.then-mark-lt1.branch [ then-mark-lt1-via-then-mark-lt1 w ↦ inl w.if-mark-lt1.true | then-mark-lt1-via-else-mark-lt1+then-mark-q w ↦ inr w.if-mark-q.true ]))
     ∙ c.loop-i.invariant
 
-pub returns-then-comes-later : goal.returns-then-comes-later
-returns-then-comes-later c =
-    sym (mark_repeated c.args.q c.args.readings.now c.loop-i.i _ c.loop-i-test.true (omega arith) (omega arith) (sym c.comes-later.ensures ∙ c.if-comes-later.true))
+pub returns-then-comes_later : goal.returns-then-comes_later
+returns-then-comes_later c =
+    sym (mark_repeated c.args.q c.args.readings.now c.loop-i.i _ c.loop-i-test.true (omega arith) (omega arith) (sym c.comes_later.ensures ∙ c.if-comes_later.true))
     ∙ c.loop-i.invariant
 
 pub loop-i-preserved : goal.loop-i-preserved
 loop-i-preserved c =
-    sym (mark_single c.args.q c.args.readings.now c.loop-i.i _ c.loop-i-test.true (omega arith) (omega arith) (sym c.comes-later.ensures ∙ c.if-comes-later.false))
+    sym (mark_single c.args.q c.args.readings.now c.loop-i.i _ c.loop-i-test.true (omega arith) (omega arith) (sym c.comes_later.ensures ∙ c.if-comes_later.false))
     ∙ c.loop-i.invariant
 
 pub returns : goal.returns

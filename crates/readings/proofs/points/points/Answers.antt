@@ -4,7 +4,7 @@ use Rattle.readings.proofs.points.points.Goals.{in-Symbol, in-default}
 use Rattle.readings.proofs.points.points.Goals as goal
 
 pub loop-i-init : goal.loop-i-init
-loop-i-init g c = filled_none g.F.Field.algebra c.args.d c.args.readings.now c.requires c.no-points-items.result c.no-points-items.ensures
+loop-i-init g c = filled_none g.F.Field.algebra c.args.d c.args.readings.now c.requires c.no_points-items.result c.no_points-items.ensures
 
 pub loop-i-preserved : goal.loop-i-preserved
 loop-i-preserved g c =

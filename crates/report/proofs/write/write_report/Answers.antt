@@ -13,10 +13,10 @@ pub returns : goal.returns
 returns c =
     let text = report_text (meant c.args.report.now) in
     let was = c.args.place.now in
-    let e = c.as-slice.ensures ∙ c.push-report.ensures.text ∙ ap (λ l. kept (l ++ text)) c.new-text.ensures ∙ take_all room text c.push-report.ensures.short in
+    let e = c.as_slice.ensures ∙ c.push_report.ensures.text ∙ ap (λ l. kept (l ++ text)) c.new-text.ensures ∙ take_all room text c.push_report.ensures.short in
     record {
-      count = c.put-front.ensures.count ∙ ap (λ t. count_placed t was) e;
-      placed = c.put-front.ensures.placed ∙ ap (λ t. placed t was) e;
+      count = c.put_front.ensures.count ∙ ap (λ t. count_placed t was) e;
+      placed = c.put_front.ensures.placed ∙ ap (λ t. placed t was) e;
       reads_back = reads_back;
       reads_only = reads_only_reports;
       apart = told_apart;

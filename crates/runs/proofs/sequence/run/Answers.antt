@@ -6,7 +6,7 @@ use Rattle.runs.proofs.sequence.run.Goals as goal
 pub loop-call-preserved : goal.loop-call-preserved
 loop-call-preserved g c =
     let call = c.call-answer.ensures in
-    let push = c.push-reserved.ensures in
+    let push = c.push_reserved.ensures in
     let inv = c.loop-call.invariant in
     let next = ran_next g.F.Field.algebra c.args.plate.now.shape c.loop-call.plate.shape c.call-answer.new.self.shape
     (g.S.Store.meaning c.args.plate.now.store) (g.S.Store.meaning c.loop-call.plate.store) (g.S.Store.meaning c.call-answer.new.self.store)

@@ -7,8 +7,8 @@ use Rattle.space.proofs.places.power.Goals as goal
 pub loop-i-init : goal.loop-i-init
 loop-i-init c = sym (pow-zero c.args.q)
 
-pub overflow-mul-product : goal.overflow-mul-product
-overflow-mul-product c =
+pub overflow_mul-product : goal.overflow_mul-product
+overflow_mul-product c =
     let w = power_within c.args.q c.loop-i.-i c.requires.0 (omega arith) in
     let b : c.loop-i.product ≤ 4096 = omega arith in
     omega (arith, mul-le c.loop-i.product c.args.q 4096 16 b c.requires.0)

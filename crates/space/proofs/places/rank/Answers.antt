@@ -12,29 +12,29 @@ loop-i-init c =
     let four : length c.args.p ≡ 4 = search rules in
     ranked_start c.args.shape.q c.args.shape.m c.args.p c.args.shape.symbols.1 c.args.shape.wide.1 four
 
-pub overflow-mul-later : goal.overflow-mul-later
-overflow-mul-later c =
+pub overflow_mul-later : goal.overflow_mul-later
+overflow_mul-later c =
     let l = c.loop-i in
     let t = term_most c.args.shape.q c.args.shape.m c.args.p c.args.shape.symbols.1 c.args.shape.wide.1 (four c)
     l.i l.weight l.later l.place l.invariant c.loop-i-test.true (get_or c.args.p (l.i - 1 + 1) 0) (omega arith) in
     omega arith
 
-pub overflow-add-later-in-loop-i : goal.overflow-add-later-in-loop-i
-overflow-add-later-in-loop-i c =
+pub overflow_add-later-in-loop-i : goal.overflow_add-later-in-loop-i
+overflow_add-later-in-loop-i c =
     let l = c.loop-i in
     let t = term_most c.args.shape.q c.args.shape.m c.args.p c.args.shape.symbols.1 c.args.shape.wide.1 (four c)
     l.i l.weight l.later l.place l.invariant c.loop-i-test.true (get_or c.args.p (l.i - 1 + 1) 0) (omega arith) in
     omega arith
 
-pub overflow-mul-weight : goal.overflow-mul-weight
-overflow-mul-weight c =
+pub overflow_mul-weight : goal.overflow_mul-weight
+overflow_mul-weight c =
     let l = c.loop-i in
     let t = heavier c.args.shape.q c.args.shape.m c.args.p c.args.shape.symbols.1 c.args.shape.wide.1 (four c)
     l.i l.weight l.later l.place l.invariant c.loop-i-test.true in
     omega arith
 
-pub overflow-add-place : goal.overflow-add-place
-overflow-add-place c =
+pub overflow_add-place : goal.overflow_add-place
+overflow_add-place c =
     let l = c.loop-i in
     let f : length c.args.p ≡ 4 = search rules in
     let t = heavier c.args.shape.q c.args.shape.m c.args.p c.args.shape.symbols.1 c.args.shape.wide.1 f

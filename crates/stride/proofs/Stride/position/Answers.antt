@@ -2,8 +2,8 @@ use Rattle.std.proofs.Common.{◌≤◌, mul-le-mul, arith}
 use Rattle.stride.proofs.StrideView.{stride_has}
 use Rattle.stride.proofs.Stride.position.Goals as goal
 
-pub overflow-mul-result : goal.overflow-mul-result
-overflow-mul-result g c =
+pub overflow_mul-result : goal.overflow_mul-result
+overflow_mul-result g c =
     let s = c.args.self.now in
     let i = c.args.i in
     let h = stride_has (g.S.Store.meaning s.below) s.pair.n s.pair.step i (omega arith) in

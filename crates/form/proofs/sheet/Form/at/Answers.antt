@@ -4,8 +4,8 @@ use Rattle.form.proofs.Sound.{checked_form}
 use Rattle.form.proofs.OnForms.{leading_value}
 use Rattle.form.proofs.sheet.Form.at.Goals as goal
 
-pub value-of-requires : goal.value-of-requires
-value-of-requires g c =
+pub value_of-requires : goal.value_of-requires
+value_of-requires g c =
     let f = c.args.self.now in
     let s = checked_form g.F.Field.algebra f c.requires.sound in
     record {
@@ -21,7 +21,7 @@ returns g c =
     let f = c.args.self.now in
     let p = c.args.p in
     let s = checked_form g.F.Field.algebra f c.requires.sound in
-    let e = c.value-of.ensures in
+    let e = c.value_of.ensures in
     record {
       exact = e.exact;
       leading = leading_value g.F.Field.algebra f.shape.m f.shape.d f.coefficients.now p _

@@ -10,6 +10,6 @@ returns t c =
     let n = c.args.n in
     let w = written c.args.self.now in
     elim c.if-n-ge10.branch [
-      | then-n-ge10 b ↦ number_then w (written c.if-n-ge10.self) _ n b.if-n-ge10.true (ap written b.self-is ∙ b.push-number.ensures) c.push.ensures
+      | then-n-ge10 b ↦ number_then w (written c.if-n-ge10.self) _ n b.if-n-ge10.true (ap written b.self-is ∙ b.push_number.ensures) c.push.ensures
       | else-n-ge10 b ↦ number_one w _ n b.if-n-ge10.false (c.push.ensures ∙ ap (λ t. kept (written t ++ ((48 + n % 10) ∷ []))) b.self-is)
     ]

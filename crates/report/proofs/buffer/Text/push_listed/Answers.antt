@@ -12,6 +12,6 @@ returns c =
     let w = written c.args.self.now in
     let text = mark_text (mark_of c.args.infinity c.args.mark) in
     elim c.if-not-first.branch [
-      | then-not-first b ↦ listed_later first w (written c.if-not-first.self) _ text b.if-not-first.true (ap written b.self-is ∙ b.push.ensures) c.push-mark.ensures
-      | else-not-first b ↦ listed_first first w _ text b.if-not-first.false (c.push-mark.ensures ∙ ap (λ t. kept (written t ++ text)) b.self-is)
+      | then-not-first b ↦ listed_later first w (written c.if-not-first.self) _ text b.if-not-first.true (ap written b.self-is ∙ b.push.ensures) c.push_mark.ensures
+      | else-not-first b ↦ listed_first first w _ text b.if-not-first.false (c.push_mark.ensures ∙ ap (λ t. kept (written t ++ text)) b.self-is)
     ]

@@ -23,7 +23,7 @@ loop-mark-preserved c =
       elim c.if-rest-eq1.branch [
         | then-rest-eq1 b ↦
             let e : bits / 2 ^ i % 2 ≡ 1 = ap (λ n. n % 2) (sym rest) ∙ b.if-rest-eq1.true in
-            rw (b.self-is, b.first-is) (goes_on_set marks q bits whole i w (written b.push-listed.new.self) first h e b.push-listed.ensures c.loop-mark.invariant.0)
+            rw (b.self-is, b.first-is) (goes_on_set marks q bits whole i w (written b.push_listed.new.self) first h e b.push_listed.ensures c.loop-mark.invariant.0)
         | else-rest-eq1 b ↦
             rw (b.self-is, b.first-is) (goes_on_clear marks q bits whole i w first h (λ e. b.if-rest-eq1.false (ap (λ n. n % 2) rest ∙ e)) c.loop-mark.invariant.0)
       ],
@@ -37,7 +37,7 @@ returns-then-first c =
     let e = goes_on_end marks c.args.infinity c.args.bits _ c.loop-mark.mark-index w c.loop-mark.first c.loop-mark-test.false c.loop-mark.invariant.0 in
     record {
       text = c.push.ensures ∙ ap (λ b. kept (w ++ list_rest b [])) (sym c.if-first.true) ∙ e;
-      bytes = λ i. omega (arith, c.type-inv.marks i);
+      bytes = λ i. omega (arith, c.type_inv.marks i);
     }
 
 pub returns-else-first : goal.returns-else-first
@@ -48,5 +48,5 @@ returns-else-first c =
     let e = goes_on_end marks c.args.infinity c.args.bits _ c.loop-mark.mark-index w c.loop-mark.first c.loop-mark-test.false c.loop-mark.invariant.0 in
     record {
       text = sym (kept_nothing t.bytes t.len t.within) ∙ ap (λ b. kept (w ++ list_rest b [])) (sym c.if-first.false) ∙ e;
-      bytes = λ i. omega (arith, c.type-inv.marks i);
+      bytes = λ i. omega (arith, c.type_inv.marks i);
     }
