@@ -10,8 +10,8 @@ returns g c =
     let k = g.S.Store.kept store in
     let vs = c.args.symbols.now in
     let pair = c.args.pair in
-    let last = c.put_all_answer.new.store in
-    let e = c.put_all_answer.ensures in
+    let last = c.put_all-answer.new.store in
+    let e = c.put_all-answer.ensures in
     let p = c.pile_over-pile.ensures in
     let same = same_pile _ m _ k _ c.args.start _ c.args.len _ pair.n _ pair.step
     (ap g.S.Store.meaning p.store) (ap g.S.Store.kept p.store) p.start p.len (ap (λ x. x.n) p.pair) (ap (λ x. x.step) p.pair) in

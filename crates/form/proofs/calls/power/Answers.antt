@@ -13,8 +13,8 @@ returns-in-1 c =
     let one : q ^ 1 ≡ q = pow-suc q 0 ∙ ap (λ x. x * q) (pow-zero q) ∙ one-mul q in
     (rw k (sym one), omega arith)
 
-pub returns-in-default : goal.returns-in-default
-returns-in-default c =
+pub returns-in_default : goal.returns-in_default
+returns-in_default c =
     let q = c.args.q in
     let k : c.args.k ≡ 2 = omega arith in
     let one : q ^ 1 ≡ q = pow-suc q 0 ∙ ap (λ x. x * q) (pow-zero q) ∙ one-mul q in

@@ -20,5 +20,5 @@ returns-in-1 c = record { count = tested 1 (λ d. d + 1) tt c.args.m c.args.d (o
 pub returns-in-2 : goal.returns-in-2
 returns-in-2 c = record { count = tested 2 (λ d. (d + 1) * (d + 2) / 2) tt c.args.m c.args.d (omega arith) c.requires.low; listed = vectors_listed c.args.m c.args.d }
 
-pub returns-in-default : goal.returns-in-default
-returns-in-default c = record { count = tested 3 (λ d. (d + 1) * (d + 2) * (d + 3) / 6) tt c.args.m c.args.d (omega arith) c.requires.low; listed = vectors_listed c.args.m c.args.d }
+pub returns-in_default : goal.returns-in_default
+returns-in_default c = record { count = tested 3 (λ d. (d + 1) * (d + 2) * (d + 3) / 6) tt c.args.m c.args.d (omega arith) c.requires.low; listed = vectors_listed c.args.m c.args.d }

@@ -1,6 +1,6 @@
 use Rattle.std.proofs.Common.{◌≡◌, ℕ, ◌+◌, List, sym, subst, ap₂, arith}
 use Rattle.readings.proofs.Filled.{Filled, filled_none, filled_symbol, filled_missing, filled_all}
-use Rattle.readings.proofs.points.points.Goals.{in-Symbol, in-default}
+use Rattle.readings.proofs.points.points.Goals.{in-Symbol, in_default}
 use Rattle.readings.proofs.points.points.Goals as goal
 
 pub loop-i-init : goal.loop-i-init
@@ -15,7 +15,7 @@ loop-i-preserved g c =
     elim c.match-readings-i.branch [
       | in-Symbol w ↦ rw (w.items-is, w.count-is)
           (filled_symbol F c.args.d rs c.requires l.items l.count i _ c.loop-i-test.true l.invariant w.in-Symbol.y w.point.result w.in-Symbol.is w.point.ensures)
-      | in-default w ↦ rw (w.items-is, w.count-is) (filled_missing F c.args.d rs c.requires l.items l.count i _ c.loop-i-test.true l.invariant w.in-default.is)
+      | in_default w ↦ rw (w.items-is, w.count-is) (filled_missing F c.args.d rs c.requires l.items l.count i _ c.loop-i-test.true l.invariant w.in_default.is)
     ]
 
 pub returns : goal.returns
