@@ -1,6 +1,6 @@
 -- A field's codes: the laws, and what is shown over any carrier, on them.
 use Rattle.std.proofs.Common.{◌≡◌, ℕ, zero, suc, ◌+◌, ◌-◌, ◌<◌, ◌≤◌, ◌≢◌, List, [], ◌∷◌, length, get_or, take, sym, refl, ap, ◌∙◌, ap₂, arith}
-use Rattle.std.specs.List.{AllByRecursion as All}
+use Rattle.std.specs.List.{AllByRecursion}
 use Rattle.std.proofs.ByRecursion.{All-weaker, All-from_get_or}
 use Rattle.field.specs.Algebra.{Algebra, Lawful, Codes, ops}
 use Rattle.field.specs.Vectors.{add, scale}
@@ -17,7 +17,7 @@ pub pos_from : (n : ℕ) → (n ≡ 0 → ⊥) → 0 < n
 pos_from zero f = absurd (f refl)
 pos_from (suc n) f = omega arith
 
-last_lift : (q : ℕ) (p : Elem q) (cs : List ℕ) (h : All (λ c. c < q) cs) → (last p (lift q cs h)).0 ≡ last p.0 cs
+last_lift : (q : ℕ) (p : Elem q) (cs : List ℕ) (h : AllByRecursion (λ c. c < q) cs) → (last p (lift q cs h)).0 ≡ last p.0 cs
 last_lift q p [] h = refl
 last_lift q p (c ∷ cs) h = last_lift q (c, h.0) cs h.1
 
@@ -38,10 +38,10 @@ module _ {F : Algebra} (lawful : Lawful F) where
   eval_in [] t = omega (arith, lawful.one_in)
   eval_in (c ∷ cs) t = lawful.plus_in _ _
 
-  pub small_mix : (p : ℕ) (xs : List ℕ) (r : ℕ) (ys : List ℕ) → All (λ c. c < F.size) (mix (ops F) p xs r ys)
+  pub small_mix : (p : ℕ) (xs : List ℕ) (r : ℕ) (ys : List ℕ) → AllByRecursion (λ c. c < F.size) (mix (ops F) p xs r ys)
   small_mix p xs r ys = add_codes lawful (scale (ops F) p xs) (scale (ops F) r ys) (scale_codes lawful p xs) (scale_codes lawful r ys)
 
-  pub small_raise : (a p : ℕ) (xs : List ℕ) → All (λ c. c < F.size) (raise (ops F) a p xs)
+  pub small_raise : (a p : ℕ) (xs : List ℕ) → AllByRecursion (λ c. c < F.size) (raise (ops F) a p xs)
   small_raise a p [] = tt
   small_raise a p (x ∷ xs) = (lawful.plus_in _ _, small_raise a x xs)
 
@@ -52,7 +52,7 @@ module _ {F : Algebra} (lawful : Lawful F) where
   zero_plus x h = lawful.plus_comm 0 x ∙ lawful.plus_zero x h
 
   pub eval_mix : (p : ℕ) (xs : List ℕ) (r : ℕ) (ys : List ℕ) (t : ℕ) → p < F.size → r < F.size → t < F.size
-      → All (λ c. c < F.size) xs → All (λ c. c < F.size) ys
+      → AllByRecursion (λ c. c < F.size) xs → AllByRecursion (λ c. c < F.size) ys
       → eval (ops F) (mix (ops F) p xs r ys) t ≡ F.plus (F.times p (eval (ops F) xs t)) (F.times r (eval (ops F) ys t))
   eval_mix p xs r ys t hp hr ht hx hy =
       let q = F.size in
@@ -76,7 +76,7 @@ module _ {F : Algebra} (lawful : Lawful F) where
         eval_lift lawful ys hy T,
       )
 
-  pub eval_raise : (u : ℕ) (xs : List ℕ) (t : ℕ) → u < F.size → t < F.size → All (λ c. c < F.size) xs → last 0 xs ≡ 0
+  pub eval_raise : (u : ℕ) (xs : List ℕ) (t : ℕ) → u < F.size → t < F.size → AllByRecursion (λ c. c < F.size) xs → last 0 xs ≡ 0
       → eval (ops F) (raise (ops F) (F.minus u) 0 xs) t ≡ F.times (F.plus (F.minus u) t) (eval (ops F) xs t)
   eval_raise u xs t hu ht hx e =
       let L = lawful in

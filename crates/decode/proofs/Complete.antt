@@ -1,6 +1,6 @@
 -- What a pair that meets every point says of near coefficients.
 use Rattle.std.proofs.Common.{◌≡◌, ℕ, zero, suc, ◌+◌, ◌-◌, ◌/◌, ◌<◌, ◌≤◌, Bool, true, false, cond, not, eqb, ◌≢◌, List, [], ◌∷◌, length, get_or, take, sym, refl, ap, ◌∙◌, ap₂, ⊎_elim, arith}
-use Rattle.std.specs.List.{AllByRecursion as All}
+use Rattle.std.specs.List.{AllByRecursion}
 use Rattle.std.proofs.lemmas.List.{length-take, get_or-take, get_or_past}
 use Rattle.std.proofs.ByRecursion.{All-weaker, All-take, All-get_or, All-from_get_or}
 use Rattle.std.proofs.lemmas.Bool.{cases_lt, eqb-true, eqb-false}
@@ -26,11 +26,11 @@ module _ {F : Algebra} (lawful : Lawful F) where
   eval_cut (suc n) (c ∷ cs) t h z = ap (λ w. F.plus c (F.times t w)) (eval_cut n cs t h (λ k i. z (suc k) (omega arith)))
 
   -- a list of degree at most w with more than w roots is all zeros
-  pub all_gone : (w : ℕ) (us cs : List ℕ) → All (λ u. u < F.size) us → All (λ c. c < F.size) cs → Distinct us → w < length us
-      → ((k : ℕ) → w < k → get_or cs k 0 ≡ 0) → All (λ u. eval (ops F) cs u ≡ 0) us → (k : ℕ) → get_or cs k 0 ≡ 0
+  pub all_gone : (w : ℕ) (us cs : List ℕ) → AllByRecursion (λ u. u < F.size) us → AllByRecursion (λ c. c < F.size) cs → Distinct us → w < length us
+      → ((k : ℕ) → w < k → get_or cs k 0 ≡ 0) → AllByRecursion (λ u. eval (ops F) cs u ≡ 0) us → (k : ℕ) → get_or cs k 0 ≡ 0
   all_gone w us cs in-us in-cs n l z h k =
       let cut = take (suc w) cs in
-      let zeros : All (λ c. c ≡ 0) cut =
+      let zeros : AllByRecursion (λ c. c ≡ 0) cut =
       few_roots lawful us cut in-us (All-take (λ c. c < F.size) (suc w) cs in-cs) (simp length-take (omega arith)) n
       (All-weaker (λ u. (u < F.size) × (eval (ops F) cs u ≡ 0)) (λ u. eval (ops F) cut u ≡ 0)
       (λ u e. eval_cut (suc w) cs u e.0 (λ j i. z j (omega arith)) ∙ e.1) us (both (λ u. u < F.size) (λ u. eval (ops F) cs u ≡ 0) us in-us h)) in
@@ -42,19 +42,19 @@ module _ {F : Algebra} (lawful : Lawful F) where
       (λ (i : suc w ≤ k). z k (omega arith))
       (cases_lt k (suc w))
     where
-      both : (P Q : ℕ → Type 0) (us : List ℕ) → All P us → All Q us → All (λ u. P u × Q u) us
+      both : (P Q : ℕ → Type 0) (us : List ℕ) → AllByRecursion P us → AllByRecursion Q us → AllByRecursion (λ u. P u × Q u) us
       both P Q [] a b = tt
       both P Q (u ∷ us) a b = ((a.0, b.0), both P Q us a.1 b.1)
 
-pub all_both : {X : Type 0} (P Q : X → Type 0) (xs : List X) → All P xs → All Q xs → All (λ x. P x × Q x) xs
+pub all_both : {X : Type 0} (P Q : X → Type 0) (xs : List X) → AllByRecursion P xs → AllByRecursion Q xs → AllByRecursion (λ x. P x × Q x) xs
 all_both P Q [] a b = tt
 all_both P Q (x ∷ xs) a b = ((a.0, b.0), all_both P Q xs a.1 b.1)
 
 module _ {F : Algebra} (lawful : Lawful F) where
   -- n is g times e everywhere where it is at more than w places
-  pub located : (d w : ℕ) (us ns gs es : List ℕ) → Fits F d w ns es → All (λ u. u < F.size) us → All (λ c. c < F.size) gs → Distinct us
+  pub located : (d w : ℕ) (us ns gs es : List ℕ) → Fits F d w ns es → AllByRecursion (λ u. u < F.size) us → AllByRecursion (λ c. c < F.size) gs → Distinct us
       → w < length us → d ≤ w → length gs ≡ suc d → 0 < length es
-      → All (λ u. eval (ops F) ns u ≡ F.times (eval (ops F) gs u) (eval (ops F) es u)) us
+      → AllByRecursion (λ u. eval (ops F) ns u ≡ F.times (eval (ops F) gs u) (eval (ops F) es u)) us
       → (t : ℕ) → t < F.size → eval (ops F) ns t ≡ F.times (eval (ops F) gs t) (eval (ops F) es t)
   located d w us ns gs es fit in-us in-gs n l i g j h t ht =
       let L = lawful in
@@ -86,15 +86,15 @@ not_true true e = sym e
 not_true false e = refl
 
 module _ {F : Algebra} (lawful : Lawful F) (d : ℕ) (ps : List (ℕ × ℕ)) (ok : Points F ps) (w : ℕ) (ns es : List ℕ) (fit : Fits F d w ns es)
-    (meets : All (Meets F ns es) ps) (d-under : d ≤ w) (w-under : w + w ≤ length ps + d) (r-over : d < length ps) (e_long : 0 < length es)
+    (meets : AllByRecursion (Meets F ns es) ps) (d-under : d ≤ w) (w-under : w + w ≤ length ps + d) (r-over : d < length ps) (e_long : 0 < length es)
     (g : List ℕ) (near : Near F d ps g) where
   agreed_many : w < length (picked (through (ops F) g) ps)
   agreed_many = omega (arith, misses_count (ops F) g ps, near.few)
 
-  agreed_in : All (λ u. u < F.size) (picked (through (ops F) g) ps)
+  agreed_in : AllByRecursion (λ u. u < F.size) (picked (through (ops F) g) ps)
   agreed_in = picked_all (through (ops F) g) (λ u. u < F.size) (λ p. (p.0 < F.size) × (p.1 < F.size)) (λ p h e. h.0) ps ok.small
 
-  agreed_at : All (λ u. eval (ops F) ns u ≡ F.times (eval (ops F) g u) (eval (ops F) es u)) (picked (through (ops F) g) ps)
+  agreed_at : AllByRecursion (λ u. eval (ops F) ns u ≡ F.times (eval (ops F) g u) (eval (ops F) es u)) (picked (through (ops F) g) ps)
   agreed_at =
       picked_all (through (ops F) g) (λ u. eval (ops F) ns u ≡ F.times (eval (ops F) g u) (eval (ops F) es u)) (Meets F ns es)
       (λ p m e. m ∙ ap (λ z. F.times z (eval (ops F) es p.0)) (sym (eqb-true (eval (ops F) g p.0) p.1 e))) ps meets

@@ -1,6 +1,6 @@
 -- What is found is what is near.
 use Rattle.std.proofs.Common.{◌≡◌, ℕ, zero, suc, ◌+◌, ◌-◌, ◌/◌, ◌<◌, ◌≤◌, Bool, true, false, cond, not, eqb, ◌≢◌, List, [], ◌∷◌, length, get_or, take, sym, refl, ap, ◌∙◌, subst, ap₂, arith}
-use Rattle.std.specs.List.{AllByRecursion as All}
+use Rattle.std.specs.List.{AllByRecursion}
 use Rattle.std.proofs.lemmas.List.{length-take, length-take-le, get_or-take}
 use Rattle.std.proofs.ByRecursion.{All-weaker, All-take, All-get_or, All-from_get_or}
 use Rattle.field.specs.Algebra.{Algebra, Lawful, ops}
@@ -15,11 +15,11 @@ use Rattle.decode.specs.Fitted.{Through}
 use Rattle.decode.proofs.Picked.{picked_all, picked_apart}
 use Rattle.decode.proofs.Complete.{eval_cut, exact, enough}
 
-pub misses_same : (o : Ops ℕ) (g h : List ℕ) (ps : List (ℕ × ℕ)) → All (λ p. eval o g p.0 ≡ eval o h p.0) ps → misses o g ps ≡ misses o h ps
+pub misses_same : (o : Ops ℕ) (g h : List ℕ) (ps : List (ℕ × ℕ)) → AllByRecursion (λ p. eval o g p.0 ≡ eval o h p.0) ps → misses o g ps ≡ misses o h ps
 misses_same o g h [] e = refl
 misses_same o g h (p ∷ ps) e = ap₂ (λ x n. cond (eqb x p.1) n (suc n)) e.0 (misses_same o g h ps e.1)
 
-places_take : (P : ℕ → Type 0) (n : ℕ) (ps : List (ℕ × ℕ)) → All P (places ps) → All P (places (take n ps))
+places_take : (P : ℕ → Type 0) (n : ℕ) (ps : List (ℕ × ℕ)) → AllByRecursion P (places ps) → AllByRecursion P (places (take n ps))
 places_take P zero ps h = tt
 places_take P (suc n) [] h = tt
 places_take P (suc n) (p ∷ ps) h = (h.0, places_take P n ps h.1)
@@ -46,9 +46,9 @@ module _ {F : Algebra} (lawful : Lawful F) (d : ℕ) (ps : List (ℕ × ℕ)) (o
       let f = usable (ops F) x.e in
       let qs = take t.upto ps in
       let Q : ℕ × ℕ → Type 0 = λ p. (p.0 < F.size) × (p.1 < F.size) in
-      let in-qs : All Q qs = All-take Q t.upto ps ok.small in
+      let in-qs : AllByRecursion Q qs = All-take Q t.upto ps ok.small in
       let R : ℕ × ℕ → Type 0 = λ p. f p ≡ true → eval (ops F) (take (suc d) g) p.0 ≡ eval (ops F) h p.0 in
-      let same : All R qs =
+      let same : AllByRecursion R qs =
       All-from_get_or R qs (0, 0) (λ j l.
       let l' : j < t.upto = omega (arith, length-take t.upto ps) in
       let l'' : j < length ps = omega (arith, t.within) in

@@ -1,6 +1,6 @@
 -- A pair that meets enough points of a polynomial G is G's everywhere.
 use Rattle.std.proofs.Common.{◌≡◌, ℕ, zero, suc, ◌+◌, ◌≤◌, ◌≢◌, List, [], ◌∷◌, length, get_or, take, sym, refl, ap, ◌∙◌, arith}
-use Rattle.std.specs.List.{AllByRecursion as All}
+use Rattle.std.specs.List.{AllByRecursion}
 use Rattle.std.proofs.ByRecursion.{All-weaker}
 use Rattle.field.specs.Algebra.{Ops}
 use Rattle.field.proofs.Abstract.{IsField}
@@ -54,11 +54,11 @@ module _ {K : Type 0} {o : Ops K} (L : IsField o) where
       sym (simp (eval, e, sym r, ring, L))
   eval_cut (suc n) (c ∷ cs) t z = ap (λ w. c ⊕ t ⊗ w) (eval_cut n cs t (λ k h. z (suc k) (omega arith)))
 
-  pub vanish : (rs cs : List K) → length cs ≤ length rs → Distinct rs → All (λ r. eval o cs r ≡ 𝟘) rs → (t : K) → eval o cs t ≡ 𝟘
+  pub vanish : (rs cs : List K) → length cs ≤ length rs → Distinct rs → AllByRecursion (λ r. eval o cs r ≡ 𝟘) rs → (t : K) → eval o cs t ≡ 𝟘
   vanish rs cs l n h t = eval_zeros L cs t (all_zeros_under L rs cs l n h)
 
   pub locate : (rs ns gs es : List K) → Distinct rs → length ns ≤ length rs → 1 ≤ length es → length gs + length es ≤ suc (length rs)
-      → All (λ r. eval o ns r ≡ eval o gs r ⊗ eval o es r) rs → (t : K) → eval o ns t ≡ eval o gs t ⊗ eval o es t
+      → AllByRecursion (λ r. eval o ns r ≡ eval o gs r ⊗ eval o es r) rs → (t : K) → eval o ns t ≡ eval o gs t ⊗ eval o es t
   locate rs ns gs es n l i m h t =
       let ds = add o ns (scale o (neg 𝟙) (mul o gs es)) in
       let at : (x : K) → eval o ds x ≡ eval o ns x ⊕ neg 𝟙 ⊗ (eval o gs x ⊗ eval o es x) =

@@ -1,24 +1,24 @@
 -- The points that pass a test.
 use Rattle.std.proofs.Common.{◌≡◌, ℕ, zero, suc, ◌+◌, ◌<◌, ◌≤◌, Bool, true, false, cond, not, ◌≢◌, List, [], ◌∷◌, length, get_or, take, sym, refl, ap, ◌∙◌, add-suc, add-one, arith}
-use Rattle.std.specs.List.{AllByRecursion as All}
+use Rattle.std.specs.List.{AllByRecursion}
 use Rattle.field.specs.Algebra.{Ops}
 use Rattle.poly.specs.Poly.{Distinct}
 use Rattle.decode.specs.Near.{places, through, misses, picked}
 
 pub picked_all : (f : ℕ × ℕ → Bool) (P : ℕ → Type 0) (Q : ℕ × ℕ → Type 0) → ((p : ℕ × ℕ) → Q p → f p ≡ true → P p.0)
-    → (ps : List (ℕ × ℕ)) → All Q ps → All P (picked f ps)
+    → (ps : List (ℕ × ℕ)) → AllByRecursion Q ps → AllByRecursion P (picked f ps)
 picked_all f P Q s [] h = tt
 picked_all f P Q s (p ∷ ps) h = go (picked_all f P Q s ps h.1) (f p) refl
   where
-    go : All P (picked f ps) → (b : Bool) → f p ≡ b → All P (cond b (p.0 ∷ picked f ps) (picked f ps))
+    go : AllByRecursion P (picked f ps) → (b : Bool) → f p ≡ b → AllByRecursion P (cond b (p.0 ∷ picked f ps) (picked f ps))
     go rest true e = (s p h.0 e, rest)
     go rest false e = rest
 
-picked_places : (f : ℕ × ℕ → Bool) (P : ℕ → Type 0) (ps : List (ℕ × ℕ)) → All P (places ps) → All P (picked f ps)
+picked_places : (f : ℕ × ℕ → Bool) (P : ℕ → Type 0) (ps : List (ℕ × ℕ)) → AllByRecursion P (places ps) → AllByRecursion P (picked f ps)
 picked_places f P [] h = tt
 picked_places f P (p ∷ ps) h = go (picked_places f P ps h.1) (f p)
   where
-    go : All P (picked f ps) → (b : Bool) → All P (cond b (p.0 ∷ picked f ps) (picked f ps))
+    go : AllByRecursion P (picked f ps) → (b : Bool) → AllByRecursion P (cond b (p.0 ∷ picked f ps) (picked f ps))
     go rest true = (h.0, rest)
     go rest false = rest
 
@@ -61,7 +61,7 @@ pub picked_more : (f : ℕ × ℕ → Bool) (ps : List (ℕ × ℕ)) (i : ℕ) (
     → length (picked f (take (i + 1) ps)) ≡ length (picked f (take i ps)) + cond (f (get_or ps i d)) 1 0
 picked_more f ps i d h = rw add-one (more f ps i d h)
 
-among : (u : ℕ) (d : ℕ × ℕ) (qs : List (ℕ × ℕ)) (j : ℕ) → All (λ s. s ≢ u) (places qs) → j < length qs → (get_or qs j d).0 ≡ u → ⊥
+among : (u : ℕ) (d : ℕ × ℕ) (qs : List (ℕ × ℕ)) (j : ℕ) → AllByRecursion (λ s. s ≢ u) (places qs) → j < length qs → (get_or qs j d).0 ≡ u → ⊥
 among u d [] j h l e = absurd (omega arith)
 among u d (q ∷ qs) zero h l e = h.0 e
 among u d (q ∷ qs) (suc j) h l e = among u d qs j h.1 (omega arith) e
@@ -72,7 +72,7 @@ apart_at (p ∷ ps) i zero d h k l e = absurd (omega arith)
 apart_at (p ∷ ps) zero (suc j) d h k l e = among p.0 d ps j h.0 (omega arith) e
 apart_at (p ∷ ps) (suc i) (suc j) d h k l e = apart_at ps i j d h.1 (omega arith) (omega arith) e
 
-others : (u : ℕ) (d : ℕ × ℕ) (qs : List (ℕ × ℕ)) → ((j : ℕ) → j < length qs → (get_or qs j d).0 ≡ u → ⊥) → All (λ s. s ≢ u) (places qs)
+others : (u : ℕ) (d : ℕ × ℕ) (qs : List (ℕ × ℕ)) → ((j : ℕ) → j < length qs → (get_or qs j d).0 ≡ u → ⊥) → AllByRecursion (λ s. s ≢ u) (places qs)
 others u d [] h = tt
 others u d (q ∷ qs) h = ((λ e. h 0 (omega arith) e), others u d qs (λ j l. h (suc j) (omega arith)))
 

@@ -1,6 +1,6 @@
 -- The pairs that the search starts from.
 use Rattle.std.proofs.Common.{◌≡◌, ℕ, zero, suc, ◌+◌, ◌-◌, ◌/◌, ◌<◌, ◌≤◌, List, [], ◌∷◌, length, get_or, replicate, sym, refl, ap, ◌∙◌, arith}
-use Rattle.std.specs.List.{AllByRecursion as All}
+use Rattle.std.specs.List.{AllByRecursion}
 use Rattle.std.proofs.lemmas.List.{length-replicate}
 use Rattle.field.specs.Algebra.{Algebra, Lawful}
 use Rattle.decode.specs.Width.{width}
@@ -14,7 +14,7 @@ zeros_at zero k = refl
 zeros_at (suc n) zero = refl
 zeros_at (suc n) (suc k) = zeros_at n k
 
-pub zeros_in : (q n : ℕ) → 0 < q → All (λ (c : ℕ). c < q) (replicate n 0)
+pub zeros_in : (q n : ℕ) → 0 < q → AllByRecursion (λ (c : ℕ). c < q) (replicate n 0)
 zeros_in q zero h = tt
 zeros_in q (suc n) h = (h, zeros_in q n h)
 

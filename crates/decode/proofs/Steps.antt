@@ -1,6 +1,6 @@
 -- One step keeps what the two pairs are.
 use Rattle.std.proofs.Common.{◌≡◌, ℕ, zero, suc, ◌+◌, ◌-◌, ◌<◌, ◌≤◌, Bool, true, false, cond, eqb, leb, List, [], ◌∷◌, length, get_or, sym, refl, ap, ◌∙◌, subst, ap₂, ⊎_elim, add-one, arith, below_more}
-use Rattle.std.specs.List.{AllByRecursion as All}
+use Rattle.std.specs.List.{AllByRecursion}
 use Rattle.std.proofs.lemmas.List.{get_or_past}
 use Rattle.std.proofs.ByRecursion.{All-get_or}
 use Rattle.std.proofs.lemmas.Bool.{cases_lt, eqb-true, eqb-false, leb-true, leb-false}
@@ -16,7 +16,7 @@ use Rattle.decode.proofs.Places.{length_mix, getD_mix, length_raise, getD_raise,
 use Rattle.decode.proofs.Codes.{pos_from, last_getD, eval_in, small_mix, small_raise, plus_zeros, zero_plus, minus_pos, eval_mix, eval_raise, mix_meets, raise_meets, no_discrepancy, discrepancies_meet, factor_zero}
 
 module _ {F : Algebra} (lawful : Lawful F) where
-  in_field : (xs : List ℕ) (k : ℕ) → All (λ c. c < F.size) xs → get_or xs k 0 < F.size
+  in_field : (xs : List ℕ) (k : ℕ) → AllByRecursion (λ c. c < F.size) xs → get_or xs k 0 < F.size
   in_field xs k h =
       ⊎_elim (λ (l : k < length xs). All-get_or (λ c. c < F.size) xs k 0 l h)
       (λ (l : length xs ≤ k). rw (get_or_past xs k 0 l) (omega (arith, lawful.one_in)))
@@ -32,7 +32,7 @@ module _ {F : Algebra} (lawful : Lawful F) where
       (λ (l : length xs ≤ k). get_or_past (raise (ops F) a 0 xs) k 0 (omega (arith, length_raise (ops F) a 0 xs)))
       (cases_lt k (length xs))
 
-  pub raise_top : (a : ℕ) (xs : List ℕ) (k : ℕ) → a < F.size → All (λ c. c < F.size) xs → suc k < length xs → get_or xs (suc k) 0 ≡ 0
+  pub raise_top : (a : ℕ) (xs : List ℕ) (k : ℕ) → a < F.size → AllByRecursion (λ c. c < F.size) xs → suc k < length xs → get_or xs (suc k) 0 ≡ 0
       → get_or (raise (ops F) a 0 xs) (suc k) 0 ≡ get_or xs k 0
   raise_top a xs k h i l e =
       getD_raise (ops F) a 0 xs 0 (suc k) l
@@ -50,7 +50,7 @@ module _ {F : Algebra} (lawful : Lawful F) where
       (λ (i : length xs ≤ k). get_or_past (mix (ops F) p xs r ys) k 0 (omega (arith, length_mix (ops F) p xs r ys l)))
       (cases_lt k (length xs))
 
-  pub mix_top : (p : ℕ) (xs : List ℕ) (r : ℕ) (ys : List ℕ) (k : ℕ) → p < F.size → r < F.size → All (λ c. c < F.size) xs → length xs ≡ length ys → k < length xs
+  pub mix_top : (p : ℕ) (xs : List ℕ) (r : ℕ) (ys : List ℕ) (k : ℕ) → p < F.size → r < F.size → AllByRecursion (λ c. c < F.size) xs → length xs ≡ length ys → k < length xs
       → 0 < p → 0 < get_or xs k 0 → get_or ys k 0 ≡ 0 → 0 < get_or (mix (ops F) p xs r ys) k 0
   mix_top p xs r ys k hp hr hx l i a b f =
       let e : get_or (mix (ops F) p xs r ys) k 0 ≡ F.times p (get_or xs k 0) =

@@ -1,6 +1,6 @@
 -- Coefficients through one point more at a time.
 use Rattle.std.specs.Prelude.{◌≡◌, ℕ, suc, ◌+◌, ◌<◌, ◌≤◌, Bool, true, List, [], ◌∷◌, length, get_or, take, Some, None, Option, slice_index, slice_index_or}
-use Rattle.std.specs.List.{AllByRecursion as All}
+use Rattle.std.specs.List.{AllByRecursion}
 use Rattle.field.specs.Algebra.{Algebra, inverse, ops}
 use Rattle.poly.specs.Poly.{eval}
 use Rattle.decode.specs.Width.{width}
@@ -23,8 +23,8 @@ fitted_of F f p = record { p = mix (ops F) 1 f.p (factor_of F f p) f.m; m = rais
 pub record Fitting (F : Algebra) (es : List ℕ) (ps : List (ℕ × ℕ)) (i : ℕ) (f : Fit) : Type 0 where
   pub p_long : length f.p ≡ width
   pub m_long : length f.m ≡ width
-  pub p_in : All (λ c. c < F.size) f.p
-  pub m_in : All (λ c. c < F.size) f.m
+  pub p_in : AllByRecursion (λ c. c < F.size) f.p
+  pub m_in : AllByRecursion (λ c. c < F.size) f.m
   pub p_past : (k : ℕ) → f.count ≤ k → slice_index f.p k ≡ 0
   pub m_past : (k : ℕ) → f.count < k → slice_index f.m k ≡ 0
   pub at : (j : ℕ) → j < i → usable (ops F) es (slice_index_or ps j (0, 0)) ≡ true
@@ -35,7 +35,7 @@ pub record Fitting (F : Algebra) (es : List ℕ) (ps : List (ℕ × ℕ)) (i : �
 -- d + 1 coefficients through the first d + 1 usable points
 pub record Through (F : Algebra) (es : List ℕ) (d : ℕ) (ps : List (ℕ × ℕ)) (g : List ℕ) : Type 0 where
   pub long : length g ≡ width
-  pub small : All (λ c. c < F.size) g
+  pub small : AllByRecursion (λ c. c < F.size) g
   pub past : (k : ℕ) → d < k → slice_index g k ≡ 0
   pub upto : ℕ
   pub within : upto ≤ length ps

@@ -1,6 +1,6 @@
 -- The coefficients that few points miss. A point is a place and a value.
 use Rattle.std.specs.Prelude.{◌≡◌, ℕ, suc, ◌+◌, ◌-◌, ◌/◌, ◌<◌, ◌≤◌, Bool, true, false, cond, not, List, [], ◌∷◌, length, take, Some, None, Option, ◌==◌, ◌≢◌, slice_index, slice_index_or}
-use Rattle.std.specs.List.{AllByRecursion as All}
+use Rattle.std.specs.List.{AllByRecursion}
 use Rattle.field.specs.Algebra.{Algebra, ops}
 use Rattle.field.specs.Algebra.{Ops}
 use Rattle.poly.specs.Poly.{eval, Distinct}
@@ -21,13 +21,13 @@ misses o g (p ∷ ps) = cond (through o g p) (misses o g ps) (suc (misses o g ps
 
 -- distinct places, and codes only
 pub record Points (F : Algebra) (ps : List (ℕ × ℕ)) : Type 0 where
-  pub small : All (λ p. (p.0 < F.size) × (p.1 < F.size)) ps
+  pub small : AllByRecursion (λ p. (p.0 < F.size) × (p.1 < F.size)) ps
   pub apart : Distinct (places ps)
 
 -- d + 1 coefficients that miss at most half of the points beyond d + 1
 pub record Near (F : Algebra) (d : ℕ) (ps : List (ℕ × ℕ)) (g : List ℕ) : Type 0 where
   pub long : length g ≡ suc d
-  pub small : All (λ c. c < F.size) g
+  pub small : AllByRecursion (λ c. c < F.size) g
   pub few : misses (ops F) g ps ≤ (length ps - d - 1) / 2
 
 -- A pair of lists n and e that meets every point: n is the value times e there.
@@ -36,8 +36,8 @@ Meets F n e p = eval (ops F) n p.0 ≡ F.times p.1 (eval (ops F) e p.0)
 
 -- of degree at most w, and w - d
 pub record Fits (F : Algebra) (d w : ℕ) (n e : List ℕ) : Type 0 where
-  pub n_in : All (λ c. c < F.size) n
-  pub e_in : All (λ c. c < F.size) e
+  pub n_in : AllByRecursion (λ c. c < F.size) n
+  pub e_in : AllByRecursion (λ c. c < F.size) e
   pub n_past : (k : ℕ) → w < k → slice_index n k ≡ 0
   pub e_past : (k : ℕ) → w < k + d → slice_index e k ≡ 0
 

@@ -1,6 +1,6 @@
 -- The two pairs of the search, and one step of it.
 use Rattle.std.specs.Prelude.{◌≡◌, ℕ, suc, ◌+◌, ◌-◌, ◌/◌, ◌<◌, ◌≤◌, Bool, cond, List, [], ◌∷◌, length, ◌==◌, nat_le, slice_index, slice_index_or}
-use Rattle.std.specs.List.{AllByRecursion as All}
+use Rattle.std.specs.List.{AllByRecursion}
 use Rattle.field.specs.Algebra.{Algebra, ops}
 use Rattle.poly.specs.Poly.{eval}
 use Rattle.decode.specs.Width.{width}
@@ -49,5 +49,5 @@ pub record Leads (F : Algebra) (d : ℕ) (ps : List (ℕ × ℕ)) (i : ℕ) (a b
 pub record Solution (F : Algebra) (d : ℕ) (ps : List (ℕ × ℕ)) (x : Pair) : Type 0 where
   pub e_long : length x.e ≡ width
   pub fit : Fits F d ((length ps + d) / 2) x.n x.e
-  pub meets : All (Meets F x.n x.e) ps
+  pub meets : AllByRecursion (Meets F x.n x.e) ps
   pub some : ((k : ℕ) → slice_index x.e k ≡ 0) → ((k : ℕ) → slice_index x.n k ≡ 0) → ⊥

@@ -2,7 +2,7 @@
 use Rattle.std.proofs.Common.{◌≡◌, ℕ, zero, suc, ◌<◌, ◌≢◌, List, [], ◌∷◌, length, sym, refl, ap, ◌∙◌, arith}
 use mathlib.Core.HLevel.{Σ_prop_path}
 use native.Mathlib.Bridge.{le_prop}
-use Rattle.std.specs.List.{AllByRecursion as All}
+use Rattle.std.specs.List.{AllByRecursion}
 use Rattle.field.specs.Algebra.{Algebra, Lawful, Ops, Codes, ops, power}
 use Rattle.field.proofs.Abstract.{IsField}
 
@@ -52,7 +52,7 @@ module _ {F : Algebra} (L : Lawful F) where
   power_in x (suc e) = L.times_in (power (ops F) x e) x
 
 -- a list of codes as a list of elements, and back
-abbrev pub lift : (q : ℕ) (cs : List ℕ) → All (λ c. c < q) cs → List (Elem q)
+abbrev pub lift : (q : ℕ) (cs : List ℕ) → AllByRecursion (λ c. c < q) cs → List (Elem q)
 lift q [] h = []
 lift q (c ∷ cs) h = (c, h.0) ∷ lift q cs h.1
 
@@ -60,16 +60,16 @@ abbrev pub lower : {q : ℕ} → List (Elem q) → List ℕ
 lower [] = []
 lower (x ∷ xs) = x.0 ∷ lower xs
 
-pub lower_lift : (q : ℕ) (cs : List ℕ) (h : All (λ c. c < q) cs) → lower (lift q cs h) ≡ cs
+pub lower_lift : (q : ℕ) (cs : List ℕ) (h : AllByRecursion (λ c. c < q) cs) → lower (lift q cs h) ≡ cs
 lower_lift q [] h = refl
 lower_lift q (c ∷ cs) h = ap (λ w. c ∷ w) (lower_lift q cs h.1)
 
-pub length_lift : (q : ℕ) (cs : List ℕ) (h : All (λ c. c < q) cs) → length (lift q cs h) ≡ length cs
+pub length_lift : (q : ℕ) (cs : List ℕ) (h : AllByRecursion (λ c. c < q) cs) → length (lift q cs h) ≡ length cs
 length_lift q [] h = refl
 length_lift q (c ∷ cs) h = ap suc (length_lift q cs h.1)
 
 module _ {q : ℕ} where
-  pub codes_lower : (xs : List (Elem q)) → All (λ c. c < q) (lower xs)
+  pub codes_lower : (xs : List (Elem q)) → AllByRecursion (λ c. c < q) (lower xs)
   codes_lower [] = tt
   codes_lower (x ∷ xs) = (x.1, codes_lower xs)
 
@@ -78,10 +78,10 @@ module _ {q : ℕ} where
   length_lower (x ∷ xs) = ap suc (length_lower xs)
 
 module _ {q : ℕ} (P : ℕ → Type 0) (Q : Elem q → Type 0) where
-  pub all_lift : ((x : Elem q) → P x.0 → Q x) → (cs : List ℕ) (h : All (λ c. c < q) cs) → All P cs → All Q (lift q cs h)
+  pub all_lift : ((x : Elem q) → P x.0 → Q x) → (cs : List ℕ) (h : AllByRecursion (λ c. c < q) cs) → AllByRecursion P cs → AllByRecursion Q (lift q cs h)
   all_lift f [] h a = tt
   all_lift f (c ∷ cs) h a = (f (c, h.0) a.0, all_lift f cs h.1 a.1)
 
-  pub all_lower : ((x : Elem q) → Q x → P x.0) → (cs : List ℕ) (h : All (λ c. c < q) cs) → All Q (lift q cs h) → All P cs
+  pub all_lower : ((x : Elem q) → Q x → P x.0) → (cs : List ℕ) (h : AllByRecursion (λ c. c < q) cs) → AllByRecursion Q (lift q cs h) → AllByRecursion P cs
   all_lower f [] h a = tt
   all_lower f (c ∷ cs) h a = (f (c, h.0) a.0, all_lower f cs h.1 a.1)

@@ -1,7 +1,7 @@
 -- A finite field on the codes 0 to size - 1: its operations, its laws, and what is defined from them.
 -- The operations take every number and answer 0 where an argument is no code, so a contract states a result with no premise.
 use Rattle.std.specs.Prelude.{◌≡◌, ℕ, zero, suc, ◌<◌, ◌≤◌, cond, ◌&&◌, List, Some, None, Option, nat_lt}
-use Rattle.std.specs.List.{AllByRecursion as All}
+use Rattle.std.specs.List.{AllByRecursion}
 
 -- The operations on codes; `over` is the inverse of a code other than 0.
 pub record Algebra : Type 0 where
@@ -40,7 +40,7 @@ inverse F a = cond (nat_lt 0 a && nat_lt a F.size) (Some (F.over a)) None
 
 -- Every number of the list is a code.
 abbrev pub Codes : Algebra → List ℕ → Type 0
-Codes F xs = All (λ x. x < F.size) xs
+Codes F xs = AllByRecursion (λ x. x < F.size) xs
 
 -- Operations on any carrier. What is defined with them serves codes, and elements of which the laws hold with no side condition.
 pub record Ops (K : Type 0) : Type 0 where

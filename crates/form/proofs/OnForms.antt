@@ -1,6 +1,6 @@
 -- Multiples of a point, and lines.
 use Rattle.std.proofs.Common.{◌≡◌, ℕ, zero, suc, ◌+◌, ◌<◌, ◌≤◌, min, List, [], ◌∷◌, ◌++◌, map, length, take, sym, refl, ap, ◌∙◌, subst, ap₂, arith}
-use Rattle.std.specs.List.{AllByRecursion as All}
+use Rattle.std.specs.List.{AllByRecursion}
 use Rattle.std.proofs.ByRecursion.{All-append, All-map, All-weaker, All-take}
 use Rattle.std.proofs.lemmas.List.{length-take}
 use Rattle.field.specs.Algebra.{Algebra, Lawful, Ops, Codes, ops, power}
@@ -18,23 +18,23 @@ use Rattle.form.proofs.Lower.{value_lower}
 abbrev pub Good : ℕ → ℕ → List ℕ → Type 0
 Good n d v = (length v ≡ n) × (degree v ≡ d)
 
-good_spread : (n : ℕ) (f : ℕ → List (List ℕ)) → ((j : ℕ) → All (Good n j) (f j)) → (e d : ℕ) → All (Good (suc n) (e + d)) (spread f e d)
+good_spread : (n : ℕ) (f : ℕ → List (List ℕ)) → ((j : ℕ) → AllByRecursion (Good n j) (f j)) → (e d : ℕ) → AllByRecursion (Good (suc n) (e + d)) (spread f e d)
 good_spread n f h e zero =
     All-map (Good (suc n) (e + zero)) (λ v. e ∷ v) (f zero)
     (All-weaker (Good n zero) (λ v. Good (suc n) (e + zero) (e ∷ v)) (λ v g. (ap suc g.0, omega (arith, g.1))) (f zero) (h zero))
 good_spread n f h e (suc d) =
     let s : suc e + d ≡ e + suc d = omega arith in
     All-append (Good (suc n) (e + suc d)) (spread f (suc e) d) (map (λ v. e ∷ v) (f (suc d)))
-    (subst (λ k. All (Good (suc n) k) (spread f (suc e) d)) s (good_spread n f h (suc e) d))
+    (subst (λ k. AllByRecursion (Good (suc n) k) (spread f (suc e) d)) s (good_spread n f h (suc e) d))
     (All-map (Good (suc n) (e + suc d)) (λ v. e ∷ v) (f (suc d))
     (All-weaker (Good n (suc d)) (λ v. Good (suc n) (e + suc d) (e ∷ v)) (λ v g. (ap suc g.0, omega (arith, g.1))) (f (suc d)) (h (suc d))))
 
-pub good_vectors : (n d : ℕ) → All (Good n d) (vectors n d)
+pub good_vectors : (n d : ℕ) → AllByRecursion (Good n d) (vectors n d)
 good_vectors zero zero = ((refl, refl), tt)
 good_vectors zero (suc d) = tt
 good_vectors (suc n) d =
     let s : 0 + d ≡ d = omega arith in
-    subst (λ k. All (Good (suc n) k) (spread (vectors n) 0 d)) s (good_spread n (vectors n) (good_vectors n) 0 d)
+    subst (λ k. AllByRecursion (Good (suc n) k) (spread (vectors n) 0 d)) s (good_spread n (vectors n) (good_vectors n) 0 d)
 
 -- a factor e times, before the others
 abbrev rep : {K : Type 0} → ℕ → K × K → List (K × K) → List (K × K)
@@ -80,7 +80,7 @@ module _ {K : Type 0} {o : Ops K} (L : IsField o) where
       ∙ ring_mul (power o k e) (power o x e) (power o k (degree v)) (monomial o p v)
       ∙ ap (λ w. w ⊗ (power o x e ⊗ monomial o p v)) (sym (power_add k e (degree v)))
 
-  total_scale : (k : K) (d : ℕ) (p cs : List K) (vs : List (List ℕ)) → All (Good (length p) d) vs
+  total_scale : (k : K) (d : ℕ) (p cs : List K) (vs : List (List ℕ)) → AllByRecursion (Good (length p) d) vs
       → total o (scale o k p) cs vs ≡ power o k d ⊗ total o p cs vs
   total_scale k d p [] vs g = sym (mul_zero L _)
   total_scale k d p (c ∷ cs) [] g = sym (mul_zero L _)
@@ -137,7 +137,7 @@ module _ {K : Type 0} {o : Ops K} (L : IsField o) where
   slopes_factors (x ∷ w) (y ∷ v) (e ∷ es) h l =
       slopes_rep e (x, y) (factors w v es) ∙ ap (λ b. power o y e ⊗ b) (slopes_factors w v es (omega arith) (omega arith))
 
-  total_line : (d : ℕ) (w v cs : List K) (vs : List (List ℕ)) → length w ≡ length v → All (Good (length v) d) vs
+  total_line : (d : ℕ) (w v cs : List K) (vs : List (List ℕ)) → length w ≡ length v → AllByRecursion (Good (length v) d) vs
       → Represented o d (λ t. total o (along o w v t) cs vs) (total o v cs vs)
   total_line d w v [] vs h g = nothing L d
   total_line d w v (c ∷ cs) [] h g = nothing L d

@@ -1,6 +1,6 @@
 -- The list of vectors has each vector of n exponents and sum d, no other, in descending order.
 use Rattle.std.proofs.Common.{◌≡◌, ℕ, zero, suc, ◌+◌, ◌-◌, ◌<◌, ◌≤◌, ◌⊎◌, List, [], ◌∷◌, ◌++◌, map, length, get_or, sym, refl, ap, ◌∙◌, subst, inl, inr, ⊎_elim, arith}
-use Rattle.std.specs.List.{ContainsAt as Has, AllByRecursion as All}
+use Rattle.std.specs.List.{ContainsAt as Has, AllByRecursion}
 use Rattle.std.proofs.lemmas.List.{length-map, get_or-map}
 use Rattle.std.proofs.lemmas.Bool.{cases_eq}
 use Rattle.std.proofs.ByRecursion.{has_append_left, has_append_right, All-append, All-map, All-weaker}
@@ -41,27 +41,27 @@ above_less : (e : ℕ) (v : List ℕ) → Above (suc e) v → Above e v
 above_less e [] h = h
 above_less e (a ∷ u) h = omega arith
 
-above_first : (e a : ℕ) (vs : List (List ℕ)) → e < a → All (Above e) (map (λ v. a ∷ v) vs)
+above_first : (e a : ℕ) (vs : List (List ℕ)) → e < a → AllByRecursion (Above e) (map (λ v. a ∷ v) vs)
 above_first e a [] h = tt
 above_first e a (v ∷ vs) h = (h, above_first e a vs h)
 
-above_spread : (f : ℕ → List (List ℕ)) (e d : ℕ) → All (Above e) (spread f (suc e) d)
+above_spread : (f : ℕ → List (List ℕ)) (e d : ℕ) → AllByRecursion (Above e) (spread f (suc e) d)
 above_spread f e zero = above_first e (suc e) (f zero) (omega arith)
 above_spread f e (suc d) =
     All-append (Above e) (spread f (suc (suc e)) d) (map (λ v. suc e ∷ v) (f (suc d)))
     (All-weaker (Above (suc e)) (Above e) (above_less e) (spread f (suc (suc e)) d) (above_spread f (suc e) d))
     (above_first e (suc e) (f (suc d)) (omega arith))
 
-before_first : (e : ℕ) (u : List ℕ) → Above e u → (vs : List (List ℕ)) → All (Before u) (map (λ v. e ∷ v) vs)
+before_first : (e : ℕ) (u : List ℕ) → Above e u → (vs : List (List ℕ)) → AllByRecursion (Before u) (map (λ v. e ∷ v) vs)
 before_first e u h [] = tt
 before_first e [] h (v ∷ vs) = absurd h
 before_first e (a ∷ u) h (v ∷ vs) = (inl h, before_first e (a ∷ u) h vs)
 
-descending_append : (us vs : List (List ℕ)) → Descending us → Descending vs → All (λ u. All (Before u) vs) us → Descending (us ++ vs)
+descending_append : (us vs : List (List ℕ)) → Descending us → Descending vs → AllByRecursion (λ u. AllByRecursion (Before u) vs) us → Descending (us ++ vs)
 descending_append [] vs d e b = e
 descending_append (u ∷ us) vs d e b = (All-append (Before u) us vs d.0 b.0, descending_append us vs d.1 e b.1)
 
-before_same : (e : ℕ) (u : List ℕ) (vs : List (List ℕ)) → All (Before u) vs → All (Before (e ∷ u)) (map (λ v. e ∷ v) vs)
+before_same : (e : ℕ) (u : List ℕ) (vs : List (List ℕ)) → AllByRecursion (Before u) vs → AllByRecursion (Before (e ∷ u)) (map (λ v. e ∷ v) vs)
 before_same e u [] h = tt
 before_same e u (v ∷ vs) h = (inr (refl, h.0), before_same e u vs h.1)
 
@@ -73,7 +73,7 @@ descending_spread : (f : ℕ → List (List ℕ)) → ((j : ℕ) → Descending 
 descending_spread f h e zero = descending_first e (f zero) (h zero)
 descending_spread f h e (suc d) =
     descending_append (spread f (suc e) d) (map (λ v. e ∷ v) (f (suc d))) (descending_spread f h (suc e) d) (descending_first e (f (suc d)) (h (suc d)))
-    (All-weaker (Above e) (λ u. All (Before u) (map (λ v. e ∷ v) (f (suc d)))) (λ u a. before_first e u a (f (suc d))) (spread f (suc e) d) (above_spread f e d))
+    (All-weaker (Above e) (λ u. AllByRecursion (Before u) (map (λ v. e ∷ v) (f (suc d)))) (λ u a. before_first e u a (f (suc d))) (spread f (suc e) d) (above_spread f e d))
 
 descending_vectors : (n d : ℕ) → Descending (vectors n d)
 descending_vectors zero zero = (tt, tt)

@@ -1,6 +1,6 @@
 -- What sound coefficients are.
 use Rattle.std.proofs.Common.{◌≡◌, ℕ, suc, ◌+◌, ◌<◌, ◌≤◌, Bool, true, false, cond, eqb, leb, List, [], ◌∷◌, length, get_or, drop, Some, None, Ok, Err, Option, sym, refl, ap, ◌∙◌, subst, ⊎_elim, arith}
-use Rattle.std.specs.List.{AllByRecursion as All}
+use Rattle.std.specs.List.{AllByRecursion}
 use Rattle.std.proofs.lemmas.List.{at_drop_more, at_drop_all}
 use Rattle.std.proofs.lemmas.Bool.{cases_Bool, cases_lt, le-leb, lt-leb, cond-true, cond-false, eqb-true}
 use Rattle.field.specs.Algebra.{Algebra, Codes}
@@ -23,7 +23,7 @@ module _ (q i : ℕ) (cs : List ℕ) where
   pub excess_none : length cs ≤ i → first_excess q i (drop i cs) ≡ None
   excess_none h = at_drop_all (first_excess q i) cs i h
 
-codes_without_excess : (q i : ℕ) (cs : List ℕ) → first_excess q i cs ≡ None → All (λ c. c < q) cs
+codes_without_excess : (q i : ℕ) (cs : List ℕ) → first_excess q i cs ≡ None → AllByRecursion (λ c. c < q) cs
 codes_without_excess q i [] e = tt
 codes_without_excess q i (c ∷ cs) e =
     ⊎_elim
@@ -53,7 +53,7 @@ sound_form F q m d cs e =
     record {
       same = s;
       whole = eqb-true (length cs) (coefficient_count m d) c;
-      codes = subst (λ n. All (λ x. x < n) cs) s (codes_without_excess q 0 cs (no_excess (first_excess q 0 cs) f));
+      codes = subst (λ n. AllByRecursion (λ x. x < n) cs) s (codes_without_excess q 0 cs (no_excess (first_excess q 0 cs) f));
     }
 
 pub no_fault : (o : Option FormFault) → unless {X = Unit {0}} o (Ok tt) ≡ Ok tt → o ≡ None

@@ -1,6 +1,6 @@
 -- Forms of degree d: their exponent vectors in order, and their value at a point.
 use Rattle.std.specs.Prelude.{◌≡◌, ℕ, zero, suc, ◌+◌, ◌-◌, ◌*◌, ◌^◌, ◌<◌, ◌⊎◌, List, [], ◌∷◌, ◌++◌, map, length, take}
-use Rattle.std.specs.List.{ContainsAt as Has, AllByRecursion as All}
+use Rattle.std.specs.List.{ContainsAt as Has, AllByRecursion}
 use Rattle.field.specs.Algebra.{Algebra, Ops, Codes, ops, power}
 use Rattle.field.specs.Vectors.{scale, along}
 use Rattle.poly.specs.Poly.{Degree}
@@ -69,11 +69,11 @@ Before (a ∷ u) (b ∷ v) = (b < a) ⊎ ((a ≡ b) × Before u v)
 -- each stands before all that follow
 abbrev pub Descending : List (List ℕ) → Type 0
 Descending [] = Unit {0}
-Descending (u ∷ us) = All (Before u) us × Descending us
+Descending (u ∷ us) = AllByRecursion (Before u) us × Descending us
 
 -- The list of vectors has every vector of n exponents with the sum d, no other, and in descending order.
 pub record Listed (n d : ℕ) (vs : List (List ℕ)) : Type 0 where
-  pub sound : All (λ v. (length v ≡ n) × (degree v ≡ d)) vs
+  pub sound : AllByRecursion (λ v. (length v ≡ n) × (degree v ≡ d)) vs
   pub complete : (v : List ℕ) → length v ≡ n → degree v ≡ d → Has vs v
   pub ordered : Descending vs
 

@@ -1,6 +1,6 @@
 -- A list of coefficients that has as many distinct roots as coefficients is all zeros.
 use Rattle.std.proofs.Common.{◌≡◌, ℕ, suc, ◌≤◌, ◌≢◌, List, [], ◌∷◌, length, sym, refl, ap, ◌∙◌, arith}
-use Rattle.std.specs.List.{AllByRecursion as All}
+use Rattle.std.specs.List.{AllByRecursion}
 use Rattle.field.specs.Algebra.{Ops}
 use Rattle.field.proofs.Abstract.{IsField}
 use Rattle.field.specs.Vectors.{add, scale}
@@ -36,23 +36,23 @@ module _ {K : Type 0} {o : Ops K} (L : IsField o) where
       → eval o (c ∷ cs) t ≡ eval o (c ∷ cs) a ⊕ (t ⊕ neg a) ⊗ eval o (tails o a cs) t
   divides_at c cs a t = rw (add_back L a t) at (divides c cs a (t ⊕ neg a))
 
-  pub eval_zeros : (cs : List K) (t : K) → All (λ c. c ≡ 𝟘) cs → eval o cs t ≡ 𝟘
+  pub eval_zeros : (cs : List K) (t : K) → AllByRecursion (λ c. c ≡ 𝟘) cs → eval o cs t ≡ 𝟘
   eval_zeros [] t z = refl
   eval_zeros (c ∷ cs) t z = simp (eval, z.0, eval_zeros cs t z.1, ring, L)
 
   -- the list's own first coefficient, where the rest are zeros
-  first_zero : (c : K) (cs : List K) (a : K) → eval o (c ∷ cs) a ≡ 𝟘 → All (λ c. c ≡ 𝟘) cs → c ≡ 𝟘
+  first_zero : (c : K) (cs : List K) (a : K) → eval o (c ∷ cs) a ≡ 𝟘 → AllByRecursion (λ c. c ≡ 𝟘) cs → c ≡ 𝟘
   first_zero c cs a e z = simp (eval, eval_zeros cs a z, ring, L) at e
 
-  tails_zeros : (a : K) (cs : List K) → All (λ c. c ≡ 𝟘) (tails o a cs) → All (λ c. c ≡ 𝟘) cs
+  tails_zeros : (a : K) (cs : List K) → AllByRecursion (λ c. c ≡ 𝟘) (tails o a cs) → AllByRecursion (λ c. c ≡ 𝟘) cs
   tails_zeros a [] z = tt
   tails_zeros a (c ∷ cs) z =
       let rest = tails_zeros a cs z.1 in
       (first_zero c cs a z.0 rest, rest)
 
   -- a root r of the list is no other root's
-  roots_of_tails : (c : K) (cs : List K) (r : K) (rs : List K) → eval o (c ∷ cs) r ≡ 𝟘 → All (λ s. s ≢ r) rs
-      → All (λ s. eval o (c ∷ cs) s ≡ 𝟘) rs → All (λ s. eval o (tails o r cs) s ≡ 𝟘) rs
+  roots_of_tails : (c : K) (cs : List K) (r : K) (rs : List K) → eval o (c ∷ cs) r ≡ 𝟘 → AllByRecursion (λ s. s ≢ r) rs
+      → AllByRecursion (λ s. eval o (c ∷ cs) s ≡ 𝟘) rs → AllByRecursion (λ s. eval o (tails o r cs) s ≡ 𝟘) rs
   roots_of_tails c cs r [] e n h = tt
   roots_of_tails c cs r (s ∷ rs) e n h = (
     no_zero_divisor L (s ⊕ neg r) (eval o (tails o r cs) s) (differ L r s n.0)
@@ -60,7 +60,7 @@ module _ {K : Type 0} {o : Ops K} (L : IsField o) where
     roots_of_tails c cs r rs e n.1 h.1,
   )
 
-  pub all_zeros_under : (rs cs : List K) → length cs ≤ length rs → Distinct rs → All (λ r. eval o cs r ≡ 𝟘) rs → All (λ c. c ≡ 𝟘) cs
+  pub all_zeros_under : (rs cs : List K) → length cs ≤ length rs → Distinct rs → AllByRecursion (λ r. eval o cs r ≡ 𝟘) rs → AllByRecursion (λ c. c ≡ 𝟘) cs
   all_zeros_under rs [] l n h = tt
   all_zeros_under [] (c ∷ cs) l n h = absurd (omega arith)
   all_zeros_under (r ∷ rs) (c ∷ cs) l n h =
@@ -68,15 +68,15 @@ module _ {K : Type 0} {o : Ops K} (L : IsField o) where
       let zeros = tails_zeros r cs rest in
       (first_zero c cs r h.0 zeros, zeros)
 
-  pub all_zeros : (rs cs : List K) → length cs ≡ length rs → Distinct rs → All (λ r. eval o cs r ≡ 𝟘) rs → All (λ c. c ≡ 𝟘) cs
+  pub all_zeros : (rs cs : List K) → length cs ≡ length rs → Distinct rs → AllByRecursion (λ r. eval o cs r ≡ 𝟘) rs → AllByRecursion (λ c. c ≡ 𝟘) cs
   all_zeros rs cs l = all_zeros_under rs cs (omega arith)
 
   -- agreement
   agree_zero : (cs ds : List K) (t : K) → eval o cs t ≡ eval o ds t → eval o (add o cs (scale o (neg 𝟙) ds)) t ≡ 𝟘
   agree_zero cs ds t e = simp (eval_add, eval_scale, e, L) (neg_one L (eval o ds t))
 
-  agree_zeros : (cs ds rs : List K) → All (λ r. eval o cs r ≡ eval o ds r) rs
-      → All (λ r. eval o (add o cs (scale o (neg 𝟙) ds)) r ≡ 𝟘) rs
+  agree_zeros : (cs ds rs : List K) → AllByRecursion (λ r. eval o cs r ≡ eval o ds r) rs
+      → AllByRecursion (λ r. eval o (add o cs (scale o (neg 𝟙) ds)) r ≡ 𝟘) rs
   agree_zeros cs ds [] h = tt
   agree_zeros cs ds (r ∷ rs) h = (agree_zero cs ds r h.0, agree_zeros cs ds rs h.1)
 
@@ -86,14 +86,14 @@ module _ {K : Type 0} {o : Ops K} (L : IsField o) where
   length_difference k (c ∷ cs) [] l = refl
   length_difference k (c ∷ cs) (d ∷ ds) l = ap suc (length_difference k cs ds (omega arith))
 
-  no_difference : (cs ds : List K) → length cs ≡ length ds → All (λ c. c ≡ 𝟘) (add o cs (scale o (neg 𝟙) ds)) → cs ≡ ds
+  no_difference : (cs ds : List K) → length cs ≡ length ds → AllByRecursion (λ c. c ≡ 𝟘) (add o cs (scale o (neg 𝟙) ds)) → cs ≡ ds
   no_difference [] [] l z = refl
   no_difference [] (d ∷ ds) l z = absurd (omega arith)
   no_difference (c ∷ cs) [] l z = absurd (omega arith)
   no_difference (c ∷ cs) (d ∷ ds) l z = cc (same L c d z.0, no_difference cs ds (omega arith) z.1)
 
   pub unique : (rs cs ds : List K) → length cs ≡ length rs → length ds ≡ length rs → Distinct rs
-      → All (λ r. eval o cs r ≡ eval o ds r) rs → cs ≡ ds
+      → AllByRecursion (λ r. eval o cs r ≡ eval o ds r) rs → cs ≡ ds
   unique rs cs ds l m n h =
       no_difference cs ds (omega arith)
       (all_zeros rs (add o cs (scale o (neg 𝟙) ds)) (length_difference (neg 𝟙) cs ds (omega arith) ∙ l) n (agree_zeros cs ds rs h))

@@ -1,13 +1,13 @@
 -- From elements to codes.
 use Rattle.std.proofs.Common.{◌≡◌, ℕ, suc, ◌<◌, ◌≤◌, ◌≢◌, List, [], ◌∷◌, length, sym, refl, ap, ◌∙◌, arith}
-use Rattle.std.specs.List.{AllByRecursion as All}
+use Rattle.std.specs.List.{AllByRecursion}
 use Rattle.field.specs.Algebra.{Algebra, Lawful, Codes, ops}
 use Rattle.field.proofs.Elements.{Elem, same_code, elems, field_of, lift, lower, lower_lift, length_lift, codes_lower, length_lower, all_lift, all_lower}
 use Rattle.poly.specs.Poly.{eval, last, Distinct, Degree, FewRoots, Unique}
 use Rattle.poly.proofs.Products.{Represented}
 use Rattle.poly.proofs.Roots.{all_zeros_under, unique}
 
-pub distinct_lift : (q : ℕ) (rs : List ℕ) (h : All (λ c. c < q) rs) → Distinct rs → Distinct (lift q rs h)
+pub distinct_lift : (q : ℕ) (rs : List ℕ) (h : AllByRecursion (λ c. c < q) rs) → Distinct rs → Distinct (lift q rs h)
 distinct_lift q [] h n = tt
 distinct_lift q (r ∷ rs) h n =
     (all_lift (λ s. s ≢ r) (λ s. s ≢ (r, h.0)) (λ x n e. n (ap (λ y. y.0) e)) rs h.1 n.0, distinct_lift q rs h.1 n.1)

@@ -1,6 +1,6 @@
 -- What a polynomial says at the marks is what it says backwards at their points.
 use Rattle.std.proofs.Common.{◌≡◌, ℕ, zero, suc, ◌+◌, ◌-◌, ◌<◌, ◌≤◌, Bool, true, false, cond, not, ◌&&◌, ◌||◌, eqb, leb, ◌≢◌, List, [], ◌∷◌, map, reverse, length, get_or, sym, refl, ap, ◌∙◌, subst, ap₂, ⊎_elim, arith}
-use Rattle.std.specs.List.{AllByRecursion as All}
+use Rattle.std.specs.List.{AllByRecursion}
 use Rattle.std.proofs.lemmas.Bool.{cases_eq, cases_Bool, eq-eqb, ne_eqb, eqb-true, and_parts, leb-true, not-true, or_parts, eqb-false}
 use Rattle.field.specs.Algebra.{Algebra, Lawful, Codes, inverse, ops, power}
 use Rattle.field.proofs.Elements.{zero_in, power_in}
@@ -155,14 +155,14 @@ module _ {F : Algebra} (L : Lawful F) where
       (cases_eq s F.size))
       (cases_eq t F.size)
 
-  other_places : (d t : ℕ) → Mark F.size t → (rs : List Reading) → marked F.size rs ≡ true → has_mark t rs ≡ false → All (λ s. s ≢ place t) (places (points_of F d rs))
+  other_places : (d t : ℕ) → Mark F.size t → (rs : List Reading) → marked F.size rs ≡ true → has_mark t rs ≡ false → AllByRecursion (λ s. s ≢ place t) (places (points_of F d rs))
   other_places d t mt [] m n = tt
   other_places d t mt (r ∷ rs) m n =
       let k = take_marked F.size r rs m in
       let (a, b) = or_parts (eqb r.mark t) (has_mark t rs) n in
       with_entry r.entry (λ e. eqb-false r.mark t a (place_tells r.mark t k.mark mt e)) (other_places d t mt rs k.rest b)
     where
-      with_entry : (e : Entry) → place r.mark ≢ place t → All (λ s. s ≢ place t) (places (points_of F d rs)) → All (λ s. s ≢ place t) (places (with_point F d r e (points_of F d rs)))
+      with_entry : (e : Entry) → place r.mark ≢ place t → AllByRecursion (λ s. s ≢ place t) (places (points_of F d rs)) → AllByRecursion (λ s. s ≢ place t) (places (with_point F d r e (points_of F d rs)))
       with_entry (Symbol y) n a = ((λ e. n (sym (point_place d r y) ∙ e)), a)
       with_entry Missing n a = a
 
@@ -172,9 +172,9 @@ module _ {F : Algebra} (L : Lawful F) where
       let k = take_marked F.size r rs m in
       with_entry r.entry k.mark (points_good d rs k.rest) (other_places d r.mark k.mark rs k.rest k.single)
     where
-      with_entry : (e : Entry) → Mark F.size r.mark → Points F (points_of F d rs) → All (λ s. s ≢ place r.mark) (places (points_of F d rs)) → Points F (with_point F d r e (points_of F d rs))
+      with_entry : (e : Entry) → Mark F.size r.mark → Points F (points_of F d rs) → AllByRecursion (λ s. s ≢ place r.mark) (places (points_of F d rs)) → Points F (with_point F d r e (points_of F d rs))
       with_entry (Symbol y) k p o = record {
         small = (point_in d r y k, p.small);
-        apart = (subst (λ w. All (λ s. s ≢ w) (places (points_of F d rs))) (sym (point_place d r y)) o, p.apart);
+        apart = (subst (λ w. AllByRecursion (λ s. s ≢ w) (places (points_of F d rs))) (sym (point_place d r y)) o, p.apart);
       }
       with_entry Missing k p o = p

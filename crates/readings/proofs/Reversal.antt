@@ -1,7 +1,7 @@
 -- A polynomial read from its other end.
 use Rattle.std.proofs.Common.{◌≡◌, ℕ, zero, suc, ◌+◌, ◌-◌, ◌<◌, List, [], ◌∷◌, ◌++◌, reverse, length, get_or, sym, refl, ap, ◌∙◌, ap₂, arith}
 use mathlib.Core.List.{reverse_aux, reverse-cons}
-use Rattle.std.specs.List.{AllByRecursion as All}
+use Rattle.std.specs.List.{AllByRecursion}
 use Rattle.std.proofs.lemmas.List.{length-reverse, get_or-reverse}
 use Rattle.field.specs.Algebra.{Algebra, Lawful, Ops, Codes, ops, power}
 use Rattle.field.proofs.Abstract.{IsField}
@@ -57,7 +57,7 @@ reverse_lower : {q : ℕ} (xs ys : List (Elem q)) → lower (reverse_aux xs ys) 
 reverse_lower [] ys = refl
 reverse_lower (x ∷ xs) ys = reverse_lower xs (x ∷ ys)
 
-reverse_codes : (q : ℕ) (xs ys : List ℕ) → All (λ c. c < q) xs → All (λ c. c < q) ys → All (λ c. c < q) (reverse_aux xs ys)
+reverse_codes : (q : ℕ) (xs ys : List ℕ) → AllByRecursion (λ c. c < q) xs → AllByRecursion (λ c. c < q) ys → AllByRecursion (λ c. c < q) (reverse_aux xs ys)
 reverse_codes q [] ys h k = k
 reverse_codes q (x ∷ xs) ys h k = reverse_codes q xs (x ∷ ys) h.1 (h.0, k)
 

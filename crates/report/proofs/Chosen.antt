@@ -1,16 +1,16 @@
 -- Which marks a number chooses, and how many.
 use Rattle.std.proofs.Common.{◌≡◌, ℕ, suc, ◌+◌, ◌-◌, ◌/◌, ◌%◌, ◌^◌, ◌<◌, ◌≤◌, Bool, true, false, cond, List, [], ◌∷◌, length, sym, refl, ap, subst, ⊎_elim, lt_of_lt_of_le, arith, pow_mono}
 use native.Mathlib.Nat.{div-eq_of_lt}
-use Rattle.std.specs.List.{AllByRecursion as All}
+use Rattle.std.specs.List.{AllByRecursion}
 use Rattle.std.proofs.lemmas.Bool.{cases_Bool, cases_lt, eqb-true}
 use Rattle.report.specs.Reports.{bit, chosen_from}
 
 -- what holds of each mark holds of each that is chosen
-pub all_chosen : (P : ℕ → Type 0) (i : ℕ) (ms : List ℕ) (n : ℕ) → All P ms → All P (chosen_from i ms n)
+pub all_chosen : (P : ℕ → Type 0) (i : ℕ) (ms : List ℕ) (n : ℕ) → AllByRecursion P ms → AllByRecursion P (chosen_from i ms n)
 all_chosen P i [] n h = tt
 all_chosen P i (t ∷ ts) n h =
     let rest = all_chosen P (i + 1) ts n h.1 in
-    elim (bit n i) as (λ b. All P (cond b (t ∷ chosen_from (i + 1) ts n) (chosen_from (i + 1) ts n))) [ true ↦ (h.0, rest) | false ↦ rest ]
+    elim (bit n i) as (λ b. AllByRecursion P (cond b (t ∷ chosen_from (i + 1) ts n) (chosen_from (i + 1) ts n))) [ true ↦ (h.0, rest) | false ↦ rest ]
 
 pub length_chosen : (i : ℕ) (ms : List ℕ) (n : ℕ) → length (chosen_from i ms n) ≤ length ms
 length_chosen i [] n = omega arith

@@ -1,6 +1,6 @@
 -- How long reports are.
 use Rattle.std.proofs.Common.{◌≡◌, ℕ, ◌+◌, ◌*◌, ◌^◌, ◌<◌, ◌≤◌, true, false, cond, eqb, List, [], ◌∷◌, map, length, get_or, Some, None, Option, refl, arith}
-use Rattle.std.specs.List.{AllByRecursion as All, join_with_byte}
+use Rattle.std.specs.List.{AllByRecursion, join_with_byte}
 use Rattle.std.proofs.ByRecursion.{All-from_get_or, All-map, All-weaker}
 use Rattle.std.proofs.lemmas.List.{length-append, length-map}
 use Rattle.report.specs.Room.{room}
@@ -15,19 +15,19 @@ use Rattle.report.proofs.Numerals.{length_numeral_le}
 abbrev Brief : Mark → Type 0
 Brief m = length (mark_text m) ≤ 3
 
-rejoined_length : (ms : List Mark) → All Brief ms → length (join_with_byte comma (map mark_text ms)) ≤ 4 * length ms
+rejoined_length : (ms : List Mark) → AllByRecursion Brief ms → length (join_with_byte comma (map mark_text ms)) ≤ 4 * length ms
 rejoined_length [] h = omega arith
 rejoined_length (m ∷ []) h = omega (arith, h.0)
 rejoined_length (m ∷ n ∷ ms) h =
     let rest = rejoined_length (n ∷ ms) h.1 in
     simp length-append (omega (arith, h.0))
 
-marks_length : (ms : List Mark) → All Brief ms → length (marks_text ms) ≤ 4 * length ms + 1
+marks_length : (ms : List Mark) → AllByRecursion Brief ms → length (marks_text ms) ≤ 4 * length ms + 1
 marks_length [] h = omega arith
 marks_length (m ∷ ms) h = let rest = rejoined_length (m ∷ ms) h in omega arith
 
 accepted_length : (line : ℕ) (symbol : Option ℕ) (wrong missing : List Mark) (a n : ℕ)
-    → length (numeral line) ≤ a → length (symbol_text symbol) ≤ 3 → All Brief wrong → All Brief missing → length wrong + length missing ≤ n
+    → length (numeral line) ≤ a → length (symbol_text symbol) ≤ 3 → AllByRecursion Brief wrong → AllByRecursion Brief missing → length wrong + length missing ≤ n
     → length (report_text (Accepted line symbol wrong missing)) ≤ a + 4 * n + 12
 accepted_length line symbol wrong missing a n l s w m few =
     let x = marks_length wrong w in
@@ -59,7 +59,7 @@ mark_short q t h = elim (eqb t q) as (λ b. ShortMark (cond b Infinity (At t))) 
 
 -- at most 16 marks below 100, of which each is wrong or missing or neither
 pub short_accepted : (line : ℕ) (symbol : Option ℕ) (marks : List ℕ) (q wrong missing : ℕ)
-    → line ≤ 65536 → ShortSymbol symbol → All (λ t. t < 100) marks → length marks ≤ 16 → ((i : ℕ) → bit wrong i ≡ true → bit missing i ≡ true → ⊥)
+    → line ≤ 65536 → ShortSymbol symbol → AllByRecursion (λ t. t < 100) marks → length marks ≤ 16 → ((i : ℕ) → bit wrong i ≡ true → bit missing i ≡ true → ⊥)
     → Short (Accepted line symbol (meant_marks marks q wrong) (meant_marks marks q missing))
 short_accepted line symbol marks q wrong missing l s small few apart =
     let short = λ (n : ℕ). All-map ShortMark (mark_of q) (chosen marks n) (All-weaker (λ t. t < 100) (λ t. ShortMark (mark_of q t)) (mark_short q) (chosen marks n) (all_chosen (λ t. t < 100) 0 marks n small)) in
@@ -76,7 +76,7 @@ mark_byte_brief q t h =
     let l = length_numeral_le 3 t (omega arith) (omega arith) in
     elim (eqb t q) as (λ b. Brief (cond b Infinity (At t))) [ true ↦ omega arith | false ↦ l ]
 
-chosen_brief : (marks : List ℕ) (q n : ℕ) → ((i : ℕ) → get_or marks i 0 < 256) → All Brief (meant_marks marks q n)
+chosen_brief : (marks : List ℕ) (q n : ℕ) → ((i : ℕ) → get_or marks i 0 < 256) → AllByRecursion Brief (meant_marks marks q n)
 chosen_brief marks q n bytes =
     All-map Brief (mark_of q) (chosen marks n)
     (All-weaker (λ t. t < 256) (λ t. Brief (mark_of q t)) (mark_byte_brief q) (chosen marks n)

@@ -1,7 +1,7 @@
 -- The digits of a number.
 use Rattle.std.proofs.Common.{◌≡◌, ℕ, zero, suc, ◌+◌, ◌-◌, ◌/◌, ◌%◌, ◌^◌, ◌<◌, ◌≤◌, List, [], ◌∷◌, ◌++◌, map, length, sym, refl, ap, ◌∙◌, append_assoc, arith}
 use Rattle.std.specs.Int.Digits.{digits_of, number_from_digits, AllBelowBase}
-use Rattle.std.specs.List.{AllByRecursion as All}
+use Rattle.std.specs.List.{AllByRecursion}
 use Rattle.std.proofs.lemmas.Int.Digits.{digits_of_step, length-digits_of-le, all_below_base_digits_of, number_digits_of}
 use Rattle.std.proofs.lemmas.Fmt.{decimal-digits_of, decimal_digit}
 use Rattle.std.proofs.lemmas.List.{map_push, length-map}
@@ -37,7 +37,7 @@ numerals_decimal (suc n) h = sym (decimal-digits_of (suc n) (omega arith) h)
 
 -- every byte of a numeral is a digit
 abbrev pub Figures : List ℕ → Type 0
-Figures w = All (λ x. (47 < x) × (x < 58)) w
+Figures w = AllByRecursion (λ x. (47 < x) × (x < 58)) w
 
 digits_figures : (ds : List ℕ) → AllBelowBase 10 ds → Figures (map (λ d. 48 + d) ds)
 digits_figures [] u = tt

@@ -1,6 +1,6 @@
 -- A report is read back from its text.
 use Rattle.std.proofs.Common.{◌≡◌, ℕ, ◌<◌, ◌≤◌, Bool, true, false, cond, ◌&&◌, List, [], ◌∷◌, ◌++◌, map, get_or, Some, None, codes, Option, sym, refl, ap, ◌∙◌, ap₂, arith}
-use Rattle.std.specs.List.{join_with_byte, AllByRecursion as All}
+use Rattle.std.specs.List.{join_with_byte, AllByRecursion}
 use Rattle.std.specs.Str.{bytes_eq}
 use Rattle.std.proofs.ByRecursion.{All-append, All-weaker}
 use Rattle.std.proofs.lemmas.Slice.Eq.{bytes_eq-Decides}
@@ -13,7 +13,7 @@ use Rattle.report.proofs.Numerals.{numeral_figures, number_numeral}
 
 -- every byte is above c
 abbrev Above : ℕ → List ℕ → Type 0
-Above c w = All (λ x. c < x) w
+Above c w = AllByRecursion (λ x. c < x) w
 
 above_less : (c d : ℕ) → d ≤ c → (w : List ℕ) → Above c w → Above d w
 above_less c d h w a = All-weaker (λ x. c < x) (λ x. d < x) (λ x l. omega arith) w a
@@ -32,11 +32,11 @@ cut_first c (x ∷ w) rest a =
     ap (λ b. cond b ([] ∷ cut c (w ++ (c ∷ rest))) (onto_first x (cut c (w ++ (c ∷ rest))))) (ne_eqb x c (λ e. omega (arith, a.0)))
     ∙ ap (onto_first x) (cut_first c w rest a.1)
 
-cut_rejoined : (c : ℕ) (w : List ℕ) (ws : List (List ℕ)) → All (Above c) (w ∷ ws) → cut c (join_with_byte c (w ∷ ws)) ≡ w ∷ ws
+cut_rejoined : (c : ℕ) (w : List ℕ) (ws : List (List ℕ)) → AllByRecursion (Above c) (w ∷ ws) → cut c (join_with_byte c (w ∷ ws)) ≡ w ∷ ws
 cut_rejoined c w [] a = cut_all c w a.0
 cut_rejoined c w (v ∷ ws) a = cut_first c w (join_with_byte c (v ∷ ws)) a.0 ∙ ap (λ l. w ∷ l) (cut_rejoined c v ws a.1)
 
-all_rejoined : (P : ℕ → Type 0) (c : ℕ) (ws : List (List ℕ)) → P c → All (All P) ws → All P (join_with_byte c ws)
+all_rejoined : (P : ℕ → Type 0) (c : ℕ) (ws : List (List ℕ)) → P c → AllByRecursion (AllByRecursion P) ws → AllByRecursion P (join_with_byte c ws)
 all_rejoined P c [] h a = tt
 all_rejoined P c (w ∷ []) h a = a.0
 all_rejoined P c (w ∷ v ∷ ws) h a = All-append P w (c ∷ join_with_byte c (v ∷ ws)) a.0 (h, all_rejoined P c (v ∷ ws) h a.1)
@@ -50,7 +50,7 @@ mark_above : (m : Mark) → Above 47 (mark_text m)
 mark_above (At t) = numeral_above t
 mark_above Infinity = (omega arith, (omega arith, (omega arith, tt)))
 
-all_marks_above : (ms : List Mark) → All (Above 47) (map mark_text ms)
+all_marks_above : (ms : List Mark) → AllByRecursion (Above 47) (map mark_text ms)
 all_marks_above [] = tt
 all_marks_above (m ∷ ms) = (mark_above m, all_marks_above ms)
 
@@ -67,7 +67,7 @@ symbol_above (Some n) = above_less 47 44 (omega arith) (numeral n) (numeral_abov
 dash_above : Above space (codes "-")
 dash_above = (omega arith, tt)
 
-fields_above : (r : Report) → All (Above space) (fields r)
+fields_above : (r : Report) → AllByRecursion (Above space) (fields r)
 fields_above (Accepted line symbol wrong missing) = (
   above_less 47 space (omega arith) (numeral line) (numeral_above line),
   (
@@ -86,11 +86,11 @@ fields_above (Refused line number) = (
 -- Fields read
 
 -- a text without the byte that the other begins with is not the other
-other_text : (c : ℕ) (w cs : List ℕ) → All (λ x. x ≡ c → ⊥) w → bytes_eq w (c ∷ cs) ≡ false
+other_text : (c : ℕ) (w cs : List ℕ) → AllByRecursion (λ x. x ≡ c → ⊥) w → bytes_eq w (c ∷ cs) ≡ false
 other_text c [] cs h = refl
 other_text c (x ∷ w) cs h = ap (λ b. b && bytes_eq w cs) (ne_eqb x c h.0)
 
-no_dash : (w : List ℕ) → Above 47 w → All (λ x. x ≡ 45 → ⊥) w
+no_dash : (w : List ℕ) → Above 47 w → AllByRecursion (λ x. x ≡ 45 → ⊥) w
 no_dash w a = All-weaker (λ x. 47 < x) (λ x. x ≡ 45 → ⊥) (λ x h e. omega arith) w a
 
 numeral_no_dash : (n : ℕ) → bytes_eq (numeral n) (codes "-") ≡ false
@@ -114,7 +114,7 @@ all_back (m ∷ ms) = ap₂ ◌∷◌ (mark_back m) (all_back ms)
 marks_no_dash : (ms : List Mark) → bytes_eq (join_with_byte comma (map mark_text ms)) (codes "-") ≡ false
 marks_no_dash ms =
     let P : ℕ → Type 0 = λ x. x ≡ 45 → ⊥ in
-    other_text 45 (join_with_byte comma (map mark_text ms)) [] (all_rejoined P comma (map mark_text ms) (λ e. omega arith) (All-weaker (Above 47) (All P) no_dash (map mark_text ms) (all_marks_above ms)))
+    other_text 45 (join_with_byte comma (map mark_text ms)) [] (all_rejoined P comma (map mark_text ms) (λ e. omega arith) (All-weaker (Above 47) (AllByRecursion P) no_dash (map mark_text ms) (all_marks_above ms)))
 
 marks_back : (ms : List Mark) → marks_in (marks_text ms) ≡ ms
 marks_back [] = refl

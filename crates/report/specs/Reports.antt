@@ -1,6 +1,6 @@
 -- The report of one line of a job, and its text.
 use Rattle.std.specs.Prelude.{◌≡◌, ℕ, zero, suc, ◌+◌, ◌/◌, ◌%◌, ◌^◌, ◌<◌, ◌≤◌, Bool, cond, List, [], ◌∷◌, ◌++◌, map, length, Some, None, codes, decimal, Option, ◌==◌}
-use Rattle.std.specs.List.{join_with_byte, AllByRecursion as All}
+use Rattle.std.specs.List.{join_with_byte, AllByRecursion}
 use Rattle.std.specs.Int.Digits.{digits_of}
 
 -- A mark of a line.
@@ -88,7 +88,7 @@ ShortMark Infinity = Unit {0}
 
 abbrev pub Short : Report → Type 0
 Short (Accepted line symbol wrong missing) =
-    (line ≤ 65536) × ShortSymbol symbol × All ShortMark wrong × All ShortMark missing × (length wrong + length missing ≤ 16)
+    (line ≤ 65536) × ShortSymbol symbol × AllByRecursion ShortMark wrong × AllByRecursion ShortMark missing × (length wrong + length missing ≤ 16)
 Short (Refused line number) = (line ≤ 65536) × (number ≤ 255)
 
 abbrev pub ShortFits : Type 0

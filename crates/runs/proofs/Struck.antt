@@ -1,6 +1,6 @@
 -- Two runs, the one with some spoils struck out.
 use Rattle.std.proofs.Common.{◌≡◌, ℕ, ◌<◌, ◌≤◌, Bool, true, false, ◌⊎◌, List, [], ◌∷◌, length, set, Some, None, Ok, Err, Option, Result, sym, refl, ap, ◌∙◌, subst, ap₂, inl, inr, arith, length-set}
-use Rattle.std.specs.List.{AllByRecursion as All}
+use Rattle.std.specs.List.{AllByRecursion}
 use Rattle.std.proofs.lemmas.List.{get_or-set_same, get_or-set_other, set_past}
 use Rattle.std.proofs.lemmas.Bool.{cases_eq, cases_lt}
 use Rattle.std.proofs.ByRecursion.{All-weaker}
@@ -108,7 +108,7 @@ module _ (s : Setting) (L : Lawful s.field) (wide : s.m ≤ 3) (K : ℕ → Type
       (subst (λ (z : Request). Happens s n.before z n.answer n.after) c t)
 
   runs_alike : (h : History) (struck : List Bool) (k : History) (x y u v : Cells) → Leads s x h u → Leads s y k v → requests k ≡ without struck (requests h)
-      → All (λ z. (p : ℕ) → Reads s p z → K p) (requests h) → All (Off K) (only struck (requests h)) → Agree K x y → Same struck h k u v
+      → AllByRecursion (λ z. (p : ℕ) → Reads s p z → K p) (requests h) → AllByRecursion (Off K) (only struck (requests h)) → Agree K x y → Same struck h k u v
   runs_alike [] struck [] x y u v r t e reads off g = (refl, agree_by K x y u v (sym r) (sym t) g)
   runs_alike [] struck (n ∷ k) x y u v r t e reads off g = absurd (nil_cons _ _ e)
   runs_alike (m ∷ h) [] [] x y u v r t e reads off g = absurd (nil_cons _ _ (sym e))
@@ -131,11 +131,11 @@ module _ (s : Setting) (L : Lawful s.field) (wide : s.m ≤ 3) (K : ℕ → Type
 
 -- K: no struck spoil of the cell
 
-unspoilt : (S : List Request) (P : ℕ → Request → Type 0) → All (λ z. (i : ℕ) → No (P i) S → P i z → ⊥) S
+unspoilt : (S : List Request) (P : ℕ → Request → Type 0) → AllByRecursion (λ z. (i : ℕ) → No (P i) S → P i z → ⊥) S
 unspoilt [] P = tt
 unspoilt (z ∷ S) P = ((λ i n. n.0), All-weaker _ _ (λ y f i n. f i n.1) S (unspoilt S P))
 
-all_both : {X : Type 0} (P Q : X → Type 0) (xs : List X) → All P xs → All Q xs → All (λ x. P x × Q x) xs
+all_both : {X : Type 0} (P Q : X → Type 0) (xs : List X) → AllByRecursion P xs → AllByRecursion Q xs → AllByRecursion (λ x. P x × Q x) xs
 all_both P Q [] p q = tt
 all_both P Q (x ∷ xs) p q = ((p.0, q.0), all_both P Q xs p.1 q.1)
 
@@ -147,7 +147,7 @@ same_spoil (Correct w v marks) i j p q = absurd p
 same_spoil (Mend w v marks) i j p q = absurd p
 
 -- a cell that a call of the list reads has no struck spoil
-read_unspoilt : (s : Setting) (xs S : List Request) → All (UnreadSpoil s xs) S → All (λ z. (p : ℕ) → Reads s p z → No (IsSpoil p) S) xs
+read_unspoilt : (s : Setting) (xs S : List Request) → AllByRecursion (UnreadSpoil s xs) S → AllByRecursion (λ z. (p : ℕ) → Reads s p z → No (IsSpoil p) S) xs
 read_unspoilt s xs S u =
     All-weaker _ _ (λ z f p reads. All-weaker _ _ (λ y t spoil. f p (subst (λ i. No (Reads s i) xs) (same_spoil y t.0 p t.1 spoil) t.2) reads) S u) xs
     (unspoilt xs (Reads s))
@@ -156,7 +156,7 @@ pub unread_spoils : (s : Setting) → Lawful s.field → s.m ≤ 3 → (x : Cell
 unread_spoils s L wide x zs said y r struck unread told u t =
     let called = r.called in
     let S : List Request = only struck (requests r.history) in
-    let spoils : All (UnreadSpoil s (requests r.history)) S = subst (λ (l : List Request). All (UnreadSpoil s l) (only struck l)) (sym called) unread in
+    let spoils : AllByRecursion (UnreadSpoil s (requests r.history)) S = subst (λ (l : List Request). AllByRecursion (UnreadSpoil s l) (only struck l)) (sym called) unread in
     let off = all_both (λ z. (p : ℕ) × IsSpoil p z) _ S (All-weaker _ _ (λ z k. (k.0, k.1)) S spoils) (unspoilt S IsSpoil) in
     let same =
     runs_alike s L wide (λ p. No (IsSpoil p) S) r.history struck t.history x x y u r.leads t.leads (t.called ∙ ap (without struck) (sym called))

@@ -1,6 +1,6 @@
 -- What happened in a run of calls, and when.
 use Rattle.std.specs.Prelude.{◌≡◌, ℕ, zero, suc, ◌<◌, Bool, true, false, ◌⊎◌, List, [], ◌∷◌, map, Ok, Err}
-use Rattle.std.specs.List.{AllByRecursion as All}
+use Rattle.std.specs.List.{AllByRecursion}
 use Rattle.form.specs.Forms.{symbol_at}
 use Rattle.line.specs.Asking.{line_place}
 use Rattle.line.specs.Fair.{Fair}
@@ -118,7 +118,7 @@ IsSpoil p (Mend w v marks) = ⊥
 
 -- none of the list
 abbrev pub No : {X : Type 0} → (X → Type 0) → List X → Type 0
-No P xs = All (λ x. P x → ⊥) xs
+No P xs = AllByRecursion (λ x. P x → ⊥) xs
 
 -- a spoil of a cell that no call of the list reads
 abbrev pub UnreadSpoil : Setting → List Request → Request → Type 0

@@ -1,6 +1,6 @@
 -- The law over runs.
 use Rattle.std.specs.Prelude.{◌≡◌, ℕ, ◌<◌, Bool, ◌⊎◌, List, length, Ok, ◌≢◌}
-use Rattle.std.specs.List.{AllByRecursion as All}
+use Rattle.std.specs.List.{AllByRecursion}
 use Rattle.cells.specs.declared.entries.Entry.TheVariants.{Symbol}
 use Rattle.line.specs.Fair.{restored}
 use Rattle.plate.specs.declared.calls.Reply.TheVariants.{Corrected}
@@ -30,7 +30,7 @@ FairRestored s h =
 -- same setting, every other call answers the same, and every cell with no struck spoil ends the same.
 abbrev pub UnreadSpoils : Setting → Cells → List Request → List Answer → Cells → Type 0
 UnreadSpoils s x zs said y =
-    (struck : List Bool) → All (UnreadSpoil s zs) (only struck zs)
+    (struck : List Bool) → AllByRecursion (UnreadSpoil s zs) (only struck zs)
     → (told : List Answer) (u : Cells) → Ran s x (without struck zs) told u
     → (told ≡ without struck said) × ((p : ℕ) → No (IsSpoil p) (only struck zs) → entry u p ≡ entry y p)
 

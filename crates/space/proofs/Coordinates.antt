@@ -1,6 +1,6 @@
 -- The first coordinate that no point has.
 use Rattle.std.proofs.Common.{◌≡◌, ℕ, zero, suc, ◌+◌, ◌-◌, ◌<◌, ◌≤◌, Bool, true, false, cond, not, ◌&&◌, ◌||◌, eqb, ltb, leb, List, [], ◌∷◌, length, get_or, drop, replicate, Some, None, Option, sym, refl, ap, ◌∙◌, ⊎_elim, arith}
-use Rattle.std.specs.List.{AllByRecursion as All}
+use Rattle.std.specs.List.{AllByRecursion}
 use Rattle.std.proofs.lemmas.List.{at_drop_more, at_drop_all, ext_get_or, get_or-drop, length-drop, length-replicate, get_or-replicate}
 use Rattle.std.proofs.lemmas.Bool.{cases_Bool, cond-true, cond-false, or_parts, or_from, leb-false, lt-leb, le-ltb, and_cases, and_left, and_right, not-false, not_from_true, ltb-false, eqb-true, eq-eqb, cases_lt}
 use Rattle.space.specs.Places.{Point}
@@ -28,7 +28,7 @@ module _ (q m : ℕ) where
             (and_cases (ltb m i) (not (eqb x 0)) b),
       )
 
-  good_all : (i : ℕ) (xs : List ℕ) → first_bad q m i xs ≡ None → All (λ x. x < q) xs × ((k : ℕ) → m < i + k → get_or xs k 0 ≡ 0)
+  good_all : (i : ℕ) (xs : List ℕ) → first_bad q m i xs ≡ None → AllByRecursion (λ x. x < q) xs × ((k : ℕ) → m < i + k → get_or xs k 0 ≡ 0)
   good_all i [] e = (tt, λ k h. refl)
   good_all i (x ∷ xs) e =
       ⊎_elim
@@ -63,7 +63,7 @@ module _ (q m : ℕ) where
       (λ (l : i ≤ m). and_left (ltb m i) (not (eqb x 0)) (le-ltb m i l))
       (cases_lt m i))
 
-  fine_all : (i : ℕ) (xs : List ℕ) → All (λ x. x < q) xs → ((k : ℕ) → m < i + k → get_or xs k 0 ≡ 0) → first_bad q m i xs ≡ None
+  fine_all : (i : ℕ) (xs : List ℕ) → AllByRecursion (λ x. x < q) xs → ((k : ℕ) → m < i + k → get_or xs k 0 ≡ 0) → first_bad q m i xs ≡ None
   fine_all i [] a z = refl
   fine_all i (x ∷ xs) a z =
       cond-false (bad_coordinate q m i x) _ _ (fine i x a.0 (λ h. z 0 (omega arith)))

@@ -2,7 +2,7 @@
 use Rattle.std.proofs.Common.{◌≡◌, ℕ, zero, suc, ◌+◌, ◌-◌, ◌*◌, ◌/◌, ◌%◌, ◌^◌, ◌<◌, ◌≤◌, Bool, true, false, cond, eqb, ltb, List, [], ◌∷◌, length, drop, replicate, sym, refl, ap, ◌∙◌, subst, ⊎_elim, add_assoc, mod-lt, mod-eq_of_lt, mul_assoc, mul_comm, add-mul, pow-suc, arith}
 use native.Mathlib.Nat.{pow-zero, mod-one}
 use lib.Arith.{mod-mul, digits_lt, digits_div, digits_mod}
-use Rattle.std.specs.List.{AllByRecursion as All}
+use Rattle.std.specs.List.{AllByRecursion}
 use Rattle.std.proofs.lemmas.Bool.{cases_lt, lt-ltb, le-ltb, ne_eqb}
 use Rattle.space.specs.Counts.{cells}
 use Rattle.space.specs.Places.{divisor, number, place_of, digits, point_at, point_of, Normal, Undo}
@@ -23,7 +23,7 @@ module _ (q : ℕ) (two : 1 < q) where
   number_digits z (suc k) i =
       rw (number_digits z k i, pow-suc q k, mul_comm (q ^ k) q) (sym (mod-mul i (omega arith) (power_pos k)))
 
-  pub number_below : (k : ℕ) (xs : List ℕ) → All (λ x. x < q) xs → number q k xs < q ^ k
+  pub number_below : (k : ℕ) (xs : List ℕ) → AllByRecursion (λ x. x < q) xs → number q k xs < q ^ k
   number_below zero xs h = power_pos zero
   number_below (suc k) [] h = power_pos (suc k)
   number_below (suc k) (x ∷ xs) h = rw (pow-suc q k, mul_comm (q ^ k) q) (digits_lt h.0 (number_below k xs h.1))
@@ -31,7 +31,7 @@ module _ (q : ℕ) (two : 1 < q) where
   regroup : (h x k n : ℕ) → h * q ^ suc k + (x * q ^ k + n) ≡ (h * q + x) * q ^ k + n
   regroup h x k n = rw (pow-suc q k, mul_comm (q ^ k) q, add-mul (h * q) x (q ^ k), mul_assoc h q (q ^ k)) (omega arith)
 
-  pub digits_number : (k : ℕ) (xs : List ℕ) → All (λ x. x < q) xs → k ≤ length xs → (h : ℕ)
+  pub digits_number : (k : ℕ) (xs : List ℕ) → AllByRecursion (λ x. x < q) xs → k ≤ length xs → (h : ℕ)
       → digits q (drop k xs) k (h * q ^ k + number q k xs) ≡ xs
   digits_number zero xs a l h = refl
   digits_number (suc k) [] a l h = absurd (omega arith)
@@ -53,13 +53,13 @@ module _ (q : ℕ) (two : 1 < q) where
       (λ (l : q ^ suc m ≤ i). rw (le-ltb i (q ^ suc m) l) (rw (place_of_point z m (i - q ^ suc m) (omega arith)) (omega arith)))
       (cases_lt i (q ^ suc m))
 
-  pub place_below : (m : ℕ) (p : List ℕ) → All (λ x. x < q) p → place_of q m p < cells q m
+  pub place_below : (m : ℕ) (p : List ℕ) → AllByRecursion (λ x. x < q) p → place_of q m p < cells q m
   place_below zero p a = omega arith
   place_below (suc m) [] a = omega (arith, power_pos (suc m))
   place_below (suc m) (zero ∷ xs) a = omega (arith, place_below m xs a.1)
   place_below (suc m) (suc x ∷ xs) a = rw (not_zero x) (omega (arith, number_below (suc m) xs a.1))
 
-  pub point_of_place : (m : ℕ) (p : List ℕ) → All (λ x. x < q) p → suc m ≤ length p → divisor p ≡ 1 → divisor (drop (suc m) p) ≡ 0
+  pub point_of_place : (m : ℕ) (p : List ℕ) → AllByRecursion (λ x. x < q) p → suc m ≤ length p → divisor p ≡ 1 → divisor (drop (suc m) p) ≡ 0
       → point_at q (drop (suc m) p) m (place_of q m p) ≡ p
   point_of_place m [] a l d z = absurd (omega arith)
   point_of_place zero (zero ∷ xs) a l d z = absurd (omega arith)
@@ -74,7 +74,7 @@ module _ (q : ℕ) (two : 1 < q) where
       let one : suc x ≡ 1 = rw (not_zero x) at d in
       rw (not_zero x, lt-ltb (number q (suc m) xs) (q ^ suc m) below, one) (ap (λ w. 1 ∷ w) (rw e at t))
 
-  digits_codes : (z : List ℕ) → All (λ x. x < q) z → (k i : ℕ) → All (λ x. x < q) (digits q z k i)
+  digits_codes : (z : List ℕ) → AllByRecursion (λ x. x < q) z → (k i : ℕ) → AllByRecursion (λ x. x < q) (digits q z k i)
   digits_codes z a zero i = a
   digits_codes z a (suc k) i = (mod-lt (i / q ^ k) (omega arith), digits_codes z a k i)
 
@@ -89,11 +89,11 @@ module _ (q : ℕ) (two : 1 < q) where
   -- what the point at a place is
   record Fine (z : List ℕ) (m : ℕ) (p : List ℕ) : Type 0 where
     long : length p ≡ suc m + length z
-    codes : All (λ x. x < q) p
+    codes : AllByRecursion (λ x. x < q) p
     past : drop (suc m) p ≡ z
     first : divisor p ≡ 1
 
-  point_fine : (z : List ℕ) → All (λ x. x < q) z → (m i : ℕ) → Fine z m (point_at q z m i)
+  point_fine : (z : List ℕ) → AllByRecursion (λ x. x < q) z → (m i : ℕ) → Fine z m (point_at q z m i)
   point_fine z a zero i = record { long = omega arith; codes = (two, a); past = refl; first = refl }
   point_fine z a (suc m) i =
       ⊎_elim
@@ -112,7 +112,7 @@ module _ (q : ℕ) (two : 1 < q) where
       }))
       (cases_lt i (q ^ suc m))
 
-zeros_codes : (q n : ℕ) → 0 < q → All (λ x. x < q) (replicate n 0)
+zeros_codes : (q n : ℕ) → 0 < q → AllByRecursion (λ x. x < q) (replicate n 0)
 zeros_codes q zero h = tt
 zeros_codes q (suc n) h = (h, zeros_codes q n h)
 

@@ -1,6 +1,6 @@
 -- Points over q symbols with the coordinates x0 to xm, their normal form, and their places.
 use Rattle.std.specs.Prelude.{◌≡◌, ℕ, zero, suc, ◌+◌, ◌-◌, ◌*◌, ◌/◌, ◌%◌, ◌^◌, ◌<◌, cond, List, [], ◌∷◌, ◌++◌, length, drop, replicate, ◌==◌, nat_lt}
-use Rattle.std.specs.List.{AllByRecursion as All}
+use Rattle.std.specs.List.{AllByRecursion}
 use Rattle.field.specs.Algebra.{Algebra, ops}
 use Rattle.field.specs.Vectors.{scale}
 use Rattle.space.specs.Counts.{cells}
@@ -17,7 +17,7 @@ normal F p = scale (ops F) (F.over (divisor p)) p
 -- A point: four coordinates below q, those past xm 0.
 pub record Point (q m : ℕ) (p : List ℕ) : Type 0 where
   pub four : length p ≡ 4
-  pub codes : All (λ x. x < q) p
+  pub codes : AllByRecursion (λ x. x < q) p
   pub past : drop (suc m) p ≡ replicate (3 - m) 0
 
 -- A normal point: its first coordinate that is not 0 is 1.

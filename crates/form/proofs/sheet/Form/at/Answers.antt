@@ -1,5 +1,5 @@
 use Rattle.std.proofs.Common.{◌<◌, subst, arith}
-use Rattle.std.specs.List.{AllByRecursion as All}
+use Rattle.std.specs.List.{AllByRecursion}
 use Rattle.form.proofs.Sound.{checked_form}
 use Rattle.form.proofs.OnForms.{leading_value}
 use Rattle.form.proofs.sheet.Form.at.Goals as goal
@@ -12,7 +12,7 @@ value_of-requires g c =
       wide = omega arith;
       low = omega arith;
       whole = s.whole;
-      point = subst (λ n. All (λ x. x < n) c.args.p) s.same c.requires.point.codes;
+      point = subst (λ n. AllByRecursion (λ x. x < n) c.args.p) s.same c.requires.point.codes;
       codes = s.codes;
     }
 
@@ -25,5 +25,5 @@ returns g c =
     record {
       exact = e.exact;
       leading = leading_value g.F.Field.algebra f.shape.m f.shape.d f.coefficients.now p _
-          (subst (λ n. All (λ x. x < n) p) s.same c.requires.point.codes) s.codes e.exact e.multiples e.lines;
+          (subst (λ n. AllByRecursion (λ x. x < n) p) s.same c.requires.point.codes) s.codes e.exact e.multiples e.lines;
     }
