@@ -82,7 +82,7 @@ mod tests {
             write_report(&accepted(4, None, 0, 0), &mut place),
             Some(11)
         );
-        assert!(rt; &place[0..11] == b"4 ok - - -\n");
+        assert!(rt; &place[0..11] == b"4 ok - - -\n".as_slice());
     }
 
     #[test]
@@ -98,6 +98,6 @@ mod tests {
         assert_eq!(rt; write_header(&mut place[0..32]), None);
         assert!(rt; place == [7; 34]);
         assert_eq!(rt; write_header(&mut place), Some(33));
-        assert!(rt; &place[0..34] == b"line result symbol wrong missing\n\x07");
+        assert!(rt; &place[0..34] == b"line result symbol wrong missing\n\x07".as_slice());
     }
 }
