@@ -1,6 +1,6 @@
 -- Remainders of polynomials are a field, for each modulus at which the tests pass.
-use Rattle.std.specs.Prelude.{◌≡◌, ℕ, zero, suc, ◌+◌, ◌-◌, ◌*◌, ◌^◌, ◌<◌, Bool, cond, T, List, [], map, get_or, ◌==◌, bit_xor, nat_lt, slice_index, slice_index_or, refl}
-use Rattle.std.proofs.Common.{sym, ap, ◌∙◌, eqb→eq, ltb→lt, arith}
+use Rattle.std.specs.Prelude.{◌≡◌, ℕ, zero, suc, ◌+◌, ◌-◌, ◌*◌, ◌^◌, ◌<◌, Bool, cond, T, List, [], map, ◌==◌, bit_xor, nat_lt, slice_index, slice_index_or}
+use Rattle.std.proofs.Common.{ap, ◌∙◌, eqb→eq, ltb→lt, arith}
 use Rattle.std.proofs.lemmas.Nat.{xor_lt, xor_comm}
 use Rattle.std.specs.Int.Bits.{xor_assoc, xor_zero_r, xor_self}
 use Rattle.std.specs.List.{range_with_len}
@@ -8,7 +8,7 @@ use Rattle.std.proofs.lemmas.List.FromFn.{get_or-map-range_with_len}
 use Rattle.field.specs.Algebra.{Lawful}
 use Rattle.field.proofs.Every.{every, at, at_pair, at_triple}
 use Rattle.field.proofs.Within.{inverts, lawful}
-use Rattle.binary.specs.Binary.{has, product, remainder, product_by, Remainder, products, polynomials, inverses}
+use Rattle.binary.specs.Binary.{has, product, product_by, Remainder, products, polynomials, inverses}
 
 -- the multiple of m that `remainder` takes off
 abbrev pub quotient : ℕ → ℕ → ℕ → ℕ → ℕ
@@ -67,12 +67,12 @@ module _ (d m : ℕ) where
 
   -- what stands in the table
   pub record LookedUp (t : List (List ℕ)) (a b : ℕ) : Type 0 where
-    pub exact : get_or (slice_index_or t a []) b 0 ≡ product_by d m a b
+    pub exact : slice_index (slice_index_or t a []) b ≡ product_by d m a b
     pub reduced : Remainder d m (product a b d) (slice_index (slice_index_or t a []) b)
 
   pub looked_up : T (pairs inside) → T (pairs divides) → (t : List (List ℕ)) → t ≡ products d m → (a b : ℕ) → a < 2 ^ d → b < 2 ^ d → LookedUp t a b
   looked_up u v t e a b i j =
-      let x : get_or (slice_index_or t a []) b 0 ≡ product_by d m a b =
+      let x : slice_index (slice_index_or t a []) b ≡ product_by d m a b =
       ap (λ w. slice_index (slice_index_or w a []) b) e
       ∙ ap (λ r. slice_index r b) (get_or-map-range_with_len (λ a. map (product_by d m a) (range_with_len 0 (2 ^ d))) 0 (2 ^ d) a a [] i (omega arith))
       ∙ get_or-map-range_with_len (product_by d m a) 0 (2 ^ d) b b 0 j (omega arith) in

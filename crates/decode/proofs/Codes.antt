@@ -1,8 +1,7 @@
 -- A field's codes: the laws, and what is shown over any carrier, on them.
-use Rattle.std.proofs.Common.{◌≡◌, ℕ, zero, suc, ◌+◌, ◌-◌, ◌<◌, ◌≤◌, ◌≢◌, List, [], ◌∷◌, length, get_or, take, sym, refl, ap, ◌∙◌, ap₂, arith}
+use Rattle.std.proofs.Common.{◌≡◌, ℕ, zero, suc, ◌<◌, List, [], ◌∷◌, length, get_or, sym, refl, ap, ◌∙◌, ap₂, arith}
 use Rattle.std.specs.List.{AllByRecursion}
-use Rattle.std.proofs.ByRecursion.{All-weaker, All-from_get_or}
-use Rattle.field.specs.Algebra.{Algebra, Lawful, Codes, ops}
+use Rattle.field.specs.Algebra.{Algebra, Lawful, ops}
 use Rattle.field.specs.Vectors.{add, scale}
 use Rattle.field.proofs.Elements.{Elem, same_code, elems, field_of, lift, lower, lower_lift}
 use Rattle.field.proofs.Ring.{differ}

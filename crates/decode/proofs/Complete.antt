@@ -1,15 +1,15 @@
 -- What a pair that meets every point says of near coefficients.
-use Rattle.std.proofs.Common.{◌≡◌, ℕ, zero, suc, ◌+◌, ◌-◌, ◌/◌, ◌<◌, ◌≤◌, Bool, true, false, cond, not, eqb, ◌≢◌, List, [], ◌∷◌, length, get_or, take, sym, refl, ap, ◌∙◌, ap₂, ⊎_elim, arith}
+use Rattle.std.proofs.Common.{◌≡◌, ℕ, zero, suc, ◌+◌, ◌-◌, ◌<◌, ◌≤◌, Bool, true, false, not, eqb, List, [], ◌∷◌, length, get_or, take, sym, refl, ap, ◌∙◌, ap₂, ⊎_elim, arith}
 use Rattle.std.specs.List.{AllByRecursion}
 use Rattle.std.proofs.lemmas.List.{length-take, get_or-take, get_or_past}
-use Rattle.std.proofs.ByRecursion.{All-weaker, All-take, All-get_or, All-from_get_or}
+use Rattle.std.proofs.ByRecursion.{All-weaker, All-take, All-get_or}
 use Rattle.std.proofs.lemmas.Bool.{cases_lt, eqb-true, eqb-false}
 use Rattle.field.specs.Algebra.{Algebra, Lawful, ops}
 use Rattle.poly.specs.Poly.{eval, Distinct}
 use Rattle.field.proofs.Elements.{Elem, same_code, elems, field_of, lift, length_lift, all_lift}
 use Rattle.field.proofs.Inverses.{times_zero}
 use Rattle.poly.proofs.Transfer.{eval_lift, distinct_lift, few_roots}
-use Rattle.decode.specs.Near.{Points, Near, Meets, Fits, places, through, misses, usable, picked}
+use Rattle.decode.specs.Near.{Points, Near, Meets, Fits, through, usable, picked}
 use Rattle.decode.proofs.Codes.{eval_in, plus_zeros, cancel_times}
 use Rattle.decode.proofs.Picked.{picked_all, picked_apart, picked_count, misses_count}
 use Rattle.decode.proofs.Locate as abstract

@@ -1,5 +1,5 @@
 -- What is found is what is near.
-use Rattle.std.proofs.Common.{◌≡◌, ℕ, zero, suc, ◌+◌, ◌-◌, ◌/◌, ◌<◌, ◌≤◌, Bool, true, false, cond, not, eqb, ◌≢◌, List, [], ◌∷◌, length, get_or, take, sym, refl, ap, ◌∙◌, subst, ap₂, arith}
+use Rattle.std.proofs.Common.{◌≡◌, ℕ, zero, suc, ◌+◌, ◌-◌, ◌/◌, ◌<◌, ◌≤◌, true, cond, eqb, ◌≢◌, List, [], ◌∷◌, length, get_or, take, sym, refl, ap, ◌∙◌, ap₂, arith}
 use Rattle.std.specs.List.{AllByRecursion}
 use Rattle.std.proofs.lemmas.List.{length-take, length-take-le, get_or-take}
 use Rattle.std.proofs.ByRecursion.{All-weaker, All-take, All-get_or, All-from_get_or}
@@ -9,7 +9,7 @@ use Rattle.poly.specs.Poly.{eval, Distinct}
 use Rattle.poly.proofs.Transfer.{unique_codes}
 use Rattle.decode.specs.Width.{top}
 use Rattle.decode.specs.declared.key.Pair.{Pair}
-use Rattle.decode.specs.Near.{Points, Near, Found, Meets, Fits, places, through, misses, usable, picked}
+use Rattle.decode.specs.Near.{Points, Near, Found, Meets, places, misses, usable, picked}
 use Rattle.decode.specs.Pairs.{Solution}
 use Rattle.decode.specs.Fitted.{Through}
 use Rattle.decode.proofs.Picked.{picked_all, picked_apart}

@@ -1,18 +1,16 @@
 -- One point more.
-use Rattle.std.proofs.Common.{◌≡◌, ℕ, zero, suc, ◌+◌, ◌-◌, ◌<◌, ◌≤◌, Bool, true, false, cond, not, eqb, ltb, List, [], ◌∷◌, length, get_or, take, replicate, Some, None, Option, sym, refl, ap, ◌∙◌, subst, ap₂, ⊎_elim, add-zero, arith, below_more}
-use Rattle.std.specs.List.{AllByRecursion}
-use Rattle.std.proofs.lemmas.List.{get_or_past, length-replicate}
+use Rattle.std.proofs.Common.{◌≡◌, ℕ, zero, suc, ◌+◌, ◌<◌, true, false, cond, List, ◌∷◌, length, get_or, take, replicate, sym, refl, ap, ◌∙◌, ap₂, add-zero, arith, below_more}
+use Rattle.std.proofs.lemmas.List.{length-replicate}
 use Rattle.std.proofs.ByRecursion.{All-get_or}
-use Rattle.std.proofs.lemmas.Bool.{cases_lt, lt-ltb}
 use Rattle.field.specs.Algebra.{Algebra, Lawful, inverse, ops}
 use Rattle.poly.specs.Poly.{eval, last}
 use Rattle.decode.specs.Width.{top, width}
 use Rattle.decode.specs.declared.newton.Fit.{Fit}
 use Rattle.decode.specs.Coefficients.{mix, raise}
 use Rattle.decode.specs.Near.{Points, usable, picked}
-use Rattle.decode.specs.Fitted.{value_or, factor_of, fitted_of, Fitting, Through}
+use Rattle.decode.specs.Fitted.{value_or, factor_of, fitted_of, Fitting}
 use Rattle.decode.proofs.Places.{length_mix, length_raise}
-use Rattle.decode.proofs.Codes.{last_getD, eval_in, small_mix, small_raise, plus_zeros, eval_mix, eval_raise, factor_zero, factor_pos, refined}
+use Rattle.decode.proofs.Codes.{last_getD, eval_in, small_mix, small_raise, eval_mix, eval_raise, factor_zero, factor_pos, refined}
 use Rattle.field.proofs.Inverses.{times_zero, times_positive, one_times, inverse_at}
 use Rattle.decode.proofs.Steps.{raise_zero, mix_zero}
 use Rattle.decode.proofs.Picked.{picked_more, apart_at}

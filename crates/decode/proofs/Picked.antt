@@ -1,5 +1,5 @@
 -- The points that pass a test.
-use Rattle.std.proofs.Common.{◌≡◌, ℕ, zero, suc, ◌+◌, ◌<◌, ◌≤◌, Bool, true, false, cond, not, ◌≢◌, List, [], ◌∷◌, length, get_or, take, sym, refl, ap, ◌∙◌, add-suc, add-one, arith}
+use Rattle.std.proofs.Common.{◌≡◌, ℕ, zero, suc, ◌+◌, ◌<◌, Bool, true, false, cond, not, ◌≢◌, List, [], ◌∷◌, length, get_or, take, sym, refl, add-one, arith}
 use Rattle.std.specs.List.{AllByRecursion}
 use Rattle.field.specs.Algebra.{Ops}
 use Rattle.poly.specs.Poly.{Distinct}

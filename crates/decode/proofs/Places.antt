@@ -1,5 +1,5 @@
 -- The coefficients of a sum, a multiple and a product by X + a, by their places.
-use Rattle.std.proofs.Common.{◌≡◌, ℕ, zero, suc, ◌+◌, ◌<◌, List, [], ◌∷◌, length, get_or, sym, refl, ap, ◌∙◌, arith}
+use Rattle.std.proofs.Common.{◌≡◌, ℕ, zero, suc, ◌<◌, List, [], ◌∷◌, length, get_or, sym, refl, ap, ◌∙◌, arith}
 use Rattle.field.specs.Algebra.{Ops}
 use Rattle.field.specs.Vectors.{add, scale}
 use Rattle.decode.specs.Coefficients.{mix, raise}

@@ -1,9 +1,9 @@
 -- One step, at a point: what the combinations come to.
-use Rattle.std.proofs.Common.{◌≡◌, ℕ, ◌≢◌, List, [], ◌∷◌, sym, refl, ap, ◌∙◌}
+use Rattle.std.proofs.Common.{◌≡◌, ◌≢◌, List, [], ◌∷◌, sym}
 use Rattle.field.specs.Algebra.{Ops}
 use Rattle.field.proofs.Abstract.{IsField}
 use Rattle.poly.specs.Poly.{eval, last}
-use Rattle.field.proofs.Ring.{ring, zero_add, no_zero_divisor, add_back}
+use Rattle.field.proofs.Ring.{ring, zero_add, add_back}
 use Rattle.decode.specs.Coefficients.{raise}
 
 module _ {K : Type 0} {o : Ops K} (L : IsField o) where

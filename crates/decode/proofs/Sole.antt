@@ -1,13 +1,12 @@
 -- No two polynomials are near to the same points.
-use Rattle.std.proofs.Common.{◌≡◌, ℕ, zero, suc, ◌+◌, ◌-◌, ◌/◌, ◌<◌, ◌≤◌, Bool, true, false, cond, ◌&&◌, ◌≢◌, List, [], ◌∷◌, length, take, sym, refl, ap, ◌∙◌, arith}
-use Rattle.std.specs.List.{AllByRecursion}
+use Rattle.std.proofs.Common.{◌≡◌, ℕ, zero, suc, ◌+◌, ◌<◌, ◌≤◌, Bool, true, false, cond, ◌&&◌, ◌≢◌, List, [], ◌∷◌, length, take, sym, ◌∙◌, arith}
 use Rattle.std.proofs.lemmas.List.{length-take-le}
 use Rattle.std.proofs.ByRecursion.{All-take}
 use Rattle.std.proofs.lemmas.Bool.{and_parts, eqb-true}
-use Rattle.field.specs.Algebra.{Algebra, Lawful, Ops, Codes, ops}
+use Rattle.field.specs.Algebra.{Algebra, Lawful, Ops, ops}
 use Rattle.poly.specs.Poly.{eval, Distinct}
 use Rattle.poly.proofs.Transfer.{unique_codes}
-use Rattle.decode.specs.Near.{places, through, misses, picked, Points, Near}
+use Rattle.decode.specs.Near.{through, misses, picked, Points, Near}
 use Rattle.decode.proofs.Picked.{picked_all, picked_apart}
 
 distinct_take : (n : ℕ) (xs : List ℕ) → Distinct xs → Distinct (take n xs)

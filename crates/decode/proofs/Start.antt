@@ -1,11 +1,11 @@
 -- The pairs that the search starts from.
-use Rattle.std.proofs.Common.{◌≡◌, ℕ, zero, suc, ◌+◌, ◌-◌, ◌/◌, ◌<◌, ◌≤◌, List, [], ◌∷◌, length, get_or, replicate, sym, refl, ap, ◌∙◌, arith}
+use Rattle.std.proofs.Common.{◌≡◌, ℕ, zero, suc, ◌+◌, ◌-◌, ◌<◌, ◌≤◌, List, ◌∷◌, length, get_or, replicate, refl, ap, ◌∙◌, arith}
 use Rattle.std.specs.List.{AllByRecursion}
 use Rattle.std.proofs.lemmas.List.{length-replicate}
 use Rattle.field.specs.Algebra.{Algebra, Lawful}
 use Rattle.decode.specs.Width.{width}
 use Rattle.decode.specs.declared.key.Pair.{Pair}
-use Rattle.decode.specs.Near.{Points, Meets, Fits}
+use Rattle.decode.specs.Near.{Meets}
 use Rattle.decode.specs.Pairs.{Shaped, Leads, Solution}
 use Rattle.std.proofs.ByRecursion.{All-from_get_or}
 

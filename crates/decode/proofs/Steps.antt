@@ -1,5 +1,5 @@
 -- One step keeps what the two pairs are.
-use Rattle.std.proofs.Common.{◌≡◌, ℕ, zero, suc, ◌+◌, ◌-◌, ◌<◌, ◌≤◌, Bool, true, false, cond, eqb, leb, List, [], ◌∷◌, length, get_or, sym, refl, ap, ◌∙◌, subst, ap₂, ⊎_elim, add-one, arith, below_more}
+use Rattle.std.proofs.Common.{◌≡◌, ℕ, zero, suc, ◌+◌, ◌-◌, ◌<◌, ◌≤◌, Bool, true, false, cond, eqb, leb, List, length, get_or, sym, refl, ap, ◌∙◌, ap₂, ⊎_elim, add-one, arith, below_more}
 use Rattle.std.specs.List.{AllByRecursion}
 use Rattle.std.proofs.lemmas.List.{get_or_past}
 use Rattle.std.proofs.ByRecursion.{All-get_or}
@@ -10,10 +10,10 @@ use Rattle.poly.specs.Poly.{eval, last}
 use Rattle.decode.specs.Width.{top}
 use Rattle.decode.specs.declared.key.Pair.{Pair}
 use Rattle.decode.specs.Coefficients.{mix, raise}
-use Rattle.decode.specs.Near.{Points, Meets, Fits}
+use Rattle.decode.specs.Near.{Points, Meets}
 use Rattle.decode.specs.Pairs.{discrepancy_of, raised_of, mixed_of, step_of, Shaped, Leads}
 use Rattle.decode.proofs.Places.{length_mix, getD_mix, length_raise, getD_raise, before}
-use Rattle.decode.proofs.Codes.{pos_from, last_getD, eval_in, small_mix, small_raise, plus_zeros, zero_plus, minus_pos, eval_mix, eval_raise, mix_meets, raise_meets, no_discrepancy, discrepancies_meet, factor_zero}
+use Rattle.decode.proofs.Codes.{pos_from, last_getD, eval_in, small_mix, small_raise, plus_zeros, zero_plus, eval_mix, eval_raise, mix_meets, raise_meets, no_discrepancy, discrepancies_meet, factor_zero}
 
 module _ {F : Algebra} (lawful : Lawful F) where
   in_field : (xs : List ℕ) (k : ℕ) → AllByRecursion (λ c. c < F.size) xs → get_or xs k 0 < F.size

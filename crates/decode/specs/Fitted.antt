@@ -1,5 +1,5 @@
 -- Coefficients through one point more at a time.
-use Rattle.std.specs.Prelude.{◌≡◌, ℕ, suc, ◌+◌, ◌<◌, ◌≤◌, Bool, true, List, [], ◌∷◌, length, get_or, take, Some, None, Option, slice_index, slice_index_or}
+use Rattle.std.specs.Prelude.{◌≡◌, ℕ, suc, ◌+◌, ◌<◌, ◌≤◌, true, List, length, take, Some, None, Option, slice_index, slice_index_or}
 use Rattle.std.specs.List.{AllByRecursion}
 use Rattle.field.specs.Algebra.{Algebra, inverse, ops}
 use Rattle.poly.specs.Poly.{eval}
@@ -28,8 +28,8 @@ pub record Fitting (F : Algebra) (es : List ℕ) (ps : List (ℕ × ℕ)) (i : �
   pub p_past : (k : ℕ) → f.count ≤ k → slice_index f.p k ≡ 0
   pub m_past : (k : ℕ) → f.count < k → slice_index f.m k ≡ 0
   pub at : (j : ℕ) → j < i → usable (ops F) es (slice_index_or ps j (0, 0)) ≡ true
-      → (eval (ops F) f.p (get_or ps j (0, 0)).0 ≡ (get_or ps j (0, 0)).1) × (eval (ops F) f.m (get_or ps j (0, 0)).0 ≡ 0)
-  pub ahead : (j : ℕ) → i ≤ j → j < length ps → 0 < eval (ops F) f.m (get_or ps j (0, 0)).0
+      → (eval (ops F) f.p (slice_index_or ps j (0, 0)).0 ≡ (slice_index_or ps j (0, 0)).1) × (eval (ops F) f.m (slice_index_or ps j (0, 0)).0 ≡ 0)
+  pub ahead : (j : ℕ) → i ≤ j → j < length ps → 0 < eval (ops F) f.m (slice_index_or ps j (0, 0)).0
   pub counts : length (picked (usable (ops F) es) (take i ps)) ≡ f.count
 
 -- d + 1 coefficients through the first d + 1 usable points
@@ -39,7 +39,7 @@ pub record Through (F : Algebra) (es : List ℕ) (d : ℕ) (ps : List (ℕ × �
   pub past : (k : ℕ) → d < k → slice_index g k ≡ 0
   pub upto : ℕ
   pub within : upto ≤ length ps
-  pub at : (j : ℕ) → j < upto → usable (ops F) es (slice_index_or ps j (0, 0)) ≡ true → eval (ops F) g (get_or ps j (0, 0)).0 ≡ (get_or ps j (0, 0)).1
+  pub at : (j : ℕ) → j < upto → usable (ops F) es (slice_index_or ps j (0, 0)) ≡ true → eval (ops F) g (slice_index_or ps j (0, 0)).0 ≡ (slice_index_or ps j (0, 0)).1
   pub many : length (picked (usable (ops F) es) (take upto ps)) ≡ suc d
 
 abbrev pub Interpolated : Algebra → List ℕ → ℕ → List (ℕ × ℕ) → Option (List ℕ) → Type 0

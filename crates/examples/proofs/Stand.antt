@@ -12,7 +12,7 @@ use Rattle.readings.specs.Counts.{count}
 use Rattle.readings.specs.Readings.{Explains, symbols_read, wrongs}
 use Rattle.line.specs.Lines.{line_readings}
 use Rattle.plate.specs.declared.faults.PlateFault.{PlateFault}
-use Rattle.plate.specs.Requests.{Answer, Cells, refusal, Sound, line_answer, LineAnswers, Does, Unless}
+use Rattle.plate.specs.Requests.{Cells, refusal, Sound, line_answer, LineAnswers, Does, Unless}
 use Rattle.plate.specs.Requests.Request.{Correct}
 use Rattle.runs.proofs.Moments.{unless_none}
 use Rattle.runs.proofs.OnLines.{one_reply}

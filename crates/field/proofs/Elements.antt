@@ -1,9 +1,9 @@
 -- The codes below the size as elements: there the laws have no side condition, and what is proved there holds of codes.
-use Rattle.std.proofs.Common.{◌≡◌, ℕ, zero, suc, ◌<◌, ◌≢◌, List, [], ◌∷◌, length, sym, refl, ap, ◌∙◌, arith}
+use Rattle.std.proofs.Common.{◌≡◌, ℕ, zero, suc, ◌<◌, ◌≢◌, List, [], ◌∷◌, length, refl, ap, arith}
 use mathlib.Core.HLevel.{Σ_prop_path}
 use native.Mathlib.Bridge.{le_prop}
 use Rattle.std.specs.List.{AllByRecursion}
-use Rattle.field.specs.Algebra.{Algebra, Lawful, Ops, Codes, ops, power}
+use Rattle.field.specs.Algebra.{Algebra, Lawful, Ops, ops, power}
 use Rattle.field.proofs.Abstract.{IsField}
 
 abbrev pub Elem : ℕ → Type 0

@@ -1,9 +1,9 @@
 -- What the laws give of products and inverses of codes.
-use Rattle.std.proofs.Common.{◌≡◌, ℕ, zero, suc, ◌<◌, ◌≤◌, Bool, true, false, cond, ◌&&◌, ltb, ◌≢◌, Some, None, Option, sym, refl, ap, ◌∙◌, ⊎_elim, arith}
+use Rattle.std.proofs.Common.{◌≡◌, ℕ, zero, suc, ◌<◌, ◌≤◌, ◌≢◌, Some, None, sym, refl, ap, ◌∙◌, ⊎_elim, arith}
 use Rattle.std.proofs.lemmas.Bool.{cases_lt, lt-ltb, le-ltb}
 use Rattle.field.specs.Algebra.{Algebra, Lawful, inverse, ops, power}
 use Rattle.field.proofs.Ring.{mul_zero, no_zero_divisor}
-use Rattle.field.proofs.Elements.{Elem, elems, field_of, same_code, zero_in, power_in}
+use Rattle.field.proofs.Elements.{Elem, field_of, same_code, power_in}
 
 module _ {F : Algebra} (L : Lawful F) where
   pub times_zero : (a : ℕ) → F.times a 0 ≡ 0

@@ -1,5 +1,5 @@
 -- The algebra of a field with no side conditions.
-use Rattle.std.proofs.Common.{◌≡◌, ◌≢◌, sym, refl, ap, ◌∙◌}
+use Rattle.std.proofs.Common.{◌≡◌, ◌≢◌, sym, ap, ◌∙◌}
 use Rattle.field.specs.Algebra.{Ops}
 use Rattle.field.proofs.Abstract.{IsField}
 

@@ -1,5 +1,5 @@
 -- The laws of an algebra on codes follow from those at the codes alone.
-use Rattle.std.proofs.Common.{◌≡◌, ℕ, zero, suc, ◌-◌, ◌<◌, ◌≤◌, Bool, cond, T, eqb, ltb, sym, refl, ap, ◌∙◌, subst, ⊎_elim, arith, eqb→eq}
+use Rattle.std.proofs.Common.{◌≡◌, ℕ, zero, suc, ◌-◌, ◌<◌, ◌≤◌, Bool, cond, T, eqb, ltb, sym, ap, ◌∙◌, ⊎_elim, arith, eqb→eq}
 use Rattle.std.proofs.lemmas.Bool.{cases_lt, lt-ltb, le-ltb, cond_both, ltb-true}
 use Rattle.field.specs.Algebra.{Lawful}
 use Rattle.field.specs.OnCodes.{within1, within2, greatest, on_codes}

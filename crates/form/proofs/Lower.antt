@@ -1,7 +1,6 @@
 -- What is shown over any field holds on the codes below q.
-use Rattle.std.proofs.Common.{◌≡◌, ℕ, zero, suc, ◌+◌, ◌-◌, ◌<◌, ◌≤◌, List, [], ◌∷◌, length, get_or, drop, sym, refl, ap, ◌∙◌, ap₂, arith}
-use Rattle.std.specs.List.{AllByRecursion}
-use Rattle.field.specs.Algebra.{Algebra, Lawful, Codes, ops, power}
+use Rattle.std.proofs.Common.{◌≡◌, ℕ, zero, suc, ◌<◌, List, [], ◌∷◌, length, get_or, drop, sym, refl, ap, ◌∙◌, ap₂, arith}
+use Rattle.field.specs.Algebra.{Algebra, Lawful, Codes, ops}
 use Rattle.field.proofs.Elements.{Elem, elems, field_of, lift, lower, lower_lift, length_lower, power_lower}
 use Rattle.form.specs.Forms.{vectors, monomial, total, value}
 use Rattle.form.specs.Evaluation.{terms, horner, nested}

@@ -1,9 +1,9 @@
 -- The value by the first coordinate is the sum over the exponent vectors.
-use Rattle.std.proofs.Common.{◌≡◌, ℕ, zero, suc, ◌+◌, ◌<◌, ◌≤◌, List, [], ◌∷◌, ◌++◌, map, length, get_or, drop, sym, refl, ap, ◌∙◌, subst, ap₂, arith}
+use Rattle.std.proofs.Common.{◌≡◌, ℕ, zero, suc, ◌+◌, List, [], ◌∷◌, ◌++◌, map, length, get_or, drop, sym, refl, ap, ◌∙◌, ap₂}
 use Rattle.std.proofs.lemmas.List.{length-append, length-map}
 use Rattle.field.specs.Algebra.{Ops, power}
 use Rattle.field.proofs.Abstract.{IsField}
-use Rattle.field.proofs.Ring.{ring, mul_zero, zero_mul, zero_add, one_mul}
+use Rattle.field.proofs.Ring.{ring, zero_mul, zero_add}
 use Rattle.form.specs.Forms.{spread, vectors, monomial, total, value}
 use Rattle.form.specs.Evaluation.{summed, terms, horner, nested}
 

@@ -1,13 +1,13 @@
 -- Multiples of a point, and lines.
-use Rattle.std.proofs.Common.{◌≡◌, ℕ, zero, suc, ◌+◌, ◌<◌, ◌≤◌, min, List, [], ◌∷◌, ◌++◌, map, length, take, sym, refl, ap, ◌∙◌, subst, ap₂, arith}
+use Rattle.std.proofs.Common.{◌≡◌, ℕ, zero, suc, ◌+◌, ◌<◌, min, List, [], ◌∷◌, map, length, take, sym, refl, ap, ◌∙◌, subst, ap₂, arith}
 use Rattle.std.specs.List.{AllByRecursion}
 use Rattle.std.proofs.ByRecursion.{All-append, All-map, All-weaker, All-take}
 use Rattle.std.proofs.lemmas.List.{length-take}
 use Rattle.field.specs.Algebra.{Algebra, Lawful, Ops, Codes, ops, power}
 use Rattle.field.specs.Vectors.{scale, add, along}
 use Rattle.field.proofs.Abstract.{IsField}
-use Rattle.field.proofs.Ring.{ring, mul_zero, zero_mul}
-use Rattle.field.proofs.Elements.{Elem, elems, field_of, lift, lower, lower_lift, length_lift, power_lower}
+use Rattle.field.proofs.Ring.{ring, mul_zero}
+use Rattle.field.proofs.Elements.{Elem, elems, field_of, lift, lower_lift, length_lift, power_lower}
 use Rattle.field.proofs.Vectors.{scale_lower, along_lower, take_scale, take_along}
 use Rattle.poly.proofs.Products.{product_at, slopes, Represented}
 use Rattle.poly.proofs.Lines.{line, plus_represented, times_represented, renamed, nothing}

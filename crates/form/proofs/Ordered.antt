@@ -1,11 +1,11 @@
 -- The list of vectors has each vector of n exponents and sum d, no other, in descending order.
-use Rattle.std.proofs.Common.{◌≡◌, ℕ, zero, suc, ◌+◌, ◌-◌, ◌<◌, ◌≤◌, ◌⊎◌, List, [], ◌∷◌, ◌++◌, map, length, get_or, sym, refl, ap, ◌∙◌, subst, inl, inr, ⊎_elim, arith}
+use Rattle.std.proofs.Common.{◌≡◌, ℕ, zero, suc, ◌+◌, ◌<◌, ◌≤◌, List, [], ◌∷◌, ◌++◌, map, length, sym, refl, ap, ◌∙◌, inl, inr, ⊎_elim, arith}
 use Rattle.std.specs.List.{ContainsAt as Has, AllByRecursion}
 use Rattle.std.proofs.lemmas.List.{length-map, get_or-map}
 use Rattle.std.proofs.lemmas.Bool.{cases_eq}
-use Rattle.std.proofs.ByRecursion.{has_append_left, has_append_right, All-append, All-map, All-weaker}
+use Rattle.std.proofs.ByRecursion.{has_append_left, has_append_right, All-append, All-weaker}
 use Rattle.form.specs.Forms.{spread, vectors, degree, Before, Descending, VectorsListed, choose, coefficient_count}
-use Rattle.form.specs.Evaluation.{terms, summed}
+use Rattle.form.specs.Evaluation.{terms}
 use Rattle.form.proofs.Nested.{length_vectors}
 use Rattle.form.proofs.OnForms.{good_vectors}
 

@@ -1,10 +1,10 @@
 -- The steps of `over`.
 use Rattle.std.proofs.Common.{◌≡◌, ℕ, zero, suc, ◌+◌, ◌-◌, ◌<◌, ◌≤◌, List, [], ◌∷◌, length, get_or, take, drop, set, sym, refl, ap, ◌∙◌, ⊎_elim, arith}
 use Rattle.std.proofs.lemmas.Bool.{cases_eq}
-use Rattle.std.proofs.lemmas.List.{length-set, get_or-set_same, get_or-set_other}
+use Rattle.std.proofs.lemmas.List.{get_or-set_same, get_or-set_other}
 use Rattle.poly.specs.Poly.{last}
 use Rattle.field.specs.Algebra.{Algebra, ops, power}
-use Rattle.form.specs.Evaluation.{summed, terms, horner, nested, Powers}
+use Rattle.form.specs.Evaluation.{terms, nested, Powers}
 
 module _ (F : Algebra) where
   pub nested_one : (xs : List ℕ) (d : ℕ) (cs : List ℕ) → length xs ≡ 1

@@ -4,7 +4,7 @@ use Rattle.std.specs.List.{ContainsAt as Has, AllByRecursion}
 use Rattle.field.specs.Algebra.{Algebra, Ops, Codes, ops, power}
 use Rattle.field.specs.Vectors.{scale, along}
 use Rattle.poly.specs.Poly.{Degree}
-use Rattle.space.specs.Places.{divisor, normal, point_of}
+use Rattle.space.specs.Places.{point_of}
 
 -- The exponent vectors with a first exponent from e + j down to e, each followed by the vectors of f for what is left of e + j.
 abbrev pub spread : (ℕ → List (List ℕ)) → ℕ → ℕ → List (List ℕ)

@@ -1,5 +1,5 @@
 -- The answers of the calls on forms.
-use Rattle.std.specs.Prelude.{◌≡◌, ℕ, cond, List, length, Some, None, Ok, Err, Option, Result, ◌==◌}
+use Rattle.std.specs.Prelude.{ℕ, cond, List, length, Some, None, Ok, Err, Option, Result, ◌==◌}
 use Rattle.fault.specs.declared.code.FaultCode.{FaultCode}
 use Rattle.fault.specs.declared.code.Part.{Part}
 use Rattle.field.specs.Algebra.{Algebra}

@@ -1,17 +1,16 @@
 -- What arguments are that meet no refusal.
-use Rattle.std.proofs.Common.{◌≡◌, ℕ, zero, suc, ◌+◌, ◌<◌, ◌≤◌, Bool, true, false, cond, not, ◌&&◌, ◌||◌, eqb, ltb, leb, ◌≢◌, List, [], ◌∷◌, ◌++◌, map, length, Some, None, Option, sym, refl, ap, ◌∙◌, subst, ap₂, ⊎_elim, arith}
+use Rattle.std.proofs.Common.{◌≡◌, ℕ, suc, ◌<◌, ◌≤◌, true, false, not, ◌&&◌, ◌||◌, eqb, ltb, leb, ◌≢◌, List, [], ◌∷◌, ◌++◌, map, length, None, sym, refl, ap, ◌∙◌, arith}
 use Rattle.std.proofs.lemmas.List.{length-map}
-use Rattle.std.proofs.lemmas.Bool.{cases_eq, eq-eqb, ne_eqb, eqb-true, eqb-false, ltb-true, leb-true, le-leb, and_from, not_from_false, or_left, or_right, cond-true}
+use Rattle.std.proofs.lemmas.Bool.{eq-eqb, ne_eqb, eqb-true, eqb-false, ltb-true, leb-true, le-leb, and_from, not_from_false, or_left, or_right, cond-true}
 use Rattle.field.specs.Algebra.{Algebra}
 use Rattle.space.specs.Counts.{cells, member}
 use Rattle.space.specs.Places.{point_of}
 use Rattle.decode.specs.Width.{points_most}
 use Rattle.readings.specs.declared.kinds.Reading.{Reading}
 use Rattle.readings.specs.Readings.{has_mark, marked, usable}
-use Rattle.line.specs.declared.faults.LineFault.{LineFault}
 use Rattle.line.specs.declared.faults.LineFault.TheVariants.{OtherField, NoPlace, NoDirection, SamePlace, TooFewMarks, TooManyMarks}
-use Rattle.line.specs.Asking.{first, mark_fault, marks_fault, ask_fault}
-use Rattle.line.proofs.Marks.{choose_none, pass_none, both_none, SoundMark, sound_mark}
+use Rattle.line.specs.Asking.{mark_fault, marks_fault, ask_fault}
+use Rattle.line.proofs.Marks.{choose_none, pass_none, both_none, sound_mark}
 
 pub record Asked (F : Algebra) (q m d w v : ℕ) (marks : List ℕ) : Type 0 where
   pub same : q ≡ F.size

@@ -1,7 +1,7 @@
 -- The points of a line.
-use Rattle.std.proofs.Common.{◌≡◌, ℕ, zero, suc, ◌+◌, ◌-◌, ◌<◌, ◌≤◌, Bool, true, false, cond, eqb, ◌≢◌, List, [], ◌∷◌, length, drop, replicate, Some, None, Ok, Err, Result, sym, refl, ap, ◌∙◌, subst, ap₂, ⊎_elim, arith}
-use Rattle.std.proofs.lemmas.Bool.{cases_eq, cases_Bool, eq-eqb, ne_eqb, cond-true, cond-false}
-use Rattle.field.specs.Algebra.{Algebra, Lawful, Codes, ops}
+use Rattle.std.proofs.Common.{◌≡◌, ℕ, zero, suc, ◌-◌, ◌<◌, cond, eqb, ◌≢◌, List, [], ◌∷◌, length, drop, replicate, Ok, Err, Result, sym, refl, ap, ◌∙◌, subst, ap₂, ⊎_elim, arith}
+use Rattle.std.proofs.lemmas.Bool.{cases_eq, eq-eqb, ne_eqb, cond-true, cond-false}
+use Rattle.field.specs.Algebra.{Algebra, Lawful, ops}
 use Rattle.field.specs.Vectors.{scale, add, along}
 use Rattle.field.proofs.Elements.{zero_in}
 use Rattle.field.proofs.Inverses.{times_zero}
@@ -9,7 +9,7 @@ use Rattle.field.proofs.Vectors.{length_scale, along_codes}
 use Rattle.space.specs.declared.faults.PointFault.{PointFault}
 use Rattle.space.specs.declared.faults.PointFault.TheVariants.{AllZero}
 use Rattle.space.specs.declared.points.Location.{Location}
-use Rattle.space.specs.Places.{Point, Normal, divisor, normal, place_of}
+use Rattle.space.specs.Places.{Point, divisor, normal, place_of}
 use Rattle.space.specs.Points.{checked, location}
 use Rattle.space.proofs.Coordinates.{none_of_point}
 use Rattle.line.specs.Asking.{point_on}

@@ -1,36 +1,31 @@
 -- A form along a line, and what a fair line gives of it.
-use Rattle.std.proofs.Common.{◌≡◌, ℕ, zero, suc, ◌+◌, ◌-◌, ◌*◌, ◌<◌, ◌≤◌, Bool, true, false, cond, not, eqb, ltb, ◌≢◌, List, [], ◌∷◌, map, length, get_or, take, None, Ok, Err, Result, sym, refl, ap, ◌∙◌, subst, ap₂, ⊎_elim, arith}
-use Rattle.std.specs.List.{AllByRecursion}
-use Rattle.std.proofs.lemmas.List.{length-map, take_all}
+use Rattle.std.proofs.Common.{◌≡◌, ℕ, suc, ◌<◌, ◌≤◌, not, eqb, ◌≢◌, List, [], ◌∷◌, length, get_or, take, None, Ok, Result, sym, refl, ap, ◌∙◌, ap₂, ⊎_elim, arith}
+use Rattle.std.proofs.lemmas.List.{length-map}
 use Rattle.std.proofs.lemmas.Bool.{cases_eq, cases_lt, lt-ltb, le-ltb, eq-eqb, ne_eqb, cond-true, cond-false}
 use Rattle.field.specs.Algebra.{Algebra, Lawful, Codes, ops, power}
-use Rattle.field.specs.Vectors.{scale, add, along}
+use Rattle.field.specs.Vectors.{along}
 use Rattle.field.proofs.Elements.{zero_in, power_in}
 use Rattle.field.proofs.Inverses.{times_zero, power_positive}
-use Rattle.poly.specs.Poly.{eval, last, Degree}
+use Rattle.poly.specs.Poly.{eval, Degree}
 use Rattle.space.specs.Places.{Point, Normal, divisor, normal, place_of, point_of}
 use Rattle.space.proofs.Undone.{undone}
 use Rattle.space.proofs.Normals.{divisor_in, normal_back, normal_normal}
 use Rattle.form.specs.Forms.{vectors, total, value_at, symbol_at, Leading}
-use Rattle.form.specs.Sheets.{form_fault}
 use Rattle.form.proofs.OnForms.{multiples, on_lines, leading_value}
-use Rattle.form.proofs.Sound.{Sound, sound_form}
 use Rattle.cells.specs.declared.entries.Entry.{Entry}
 use Rattle.cells.specs.declared.entries.Entry.TheVariants.{Symbol, Missing}
-use Rattle.decode.proofs.Codes.{eval_in, cancel_times, last_getD}
+use Rattle.decode.proofs.Codes.{cancel_times, last_getD}
 use Rattle.readings.specs.declared.kinds.Reading.{Reading}
 use Rattle.readings.specs.declared.kinds.AnsweredLine.{AnsweredLine}
 use Rattle.readings.specs.declared.kinds.AnswerFault.{AnswerFault}
-use Rattle.readings.specs.Counts.{count, bits}
-use Rattle.readings.specs.Readings.{at_mark, value_of, disagrees, is_wrong, wrongs, missings, answered, NearAnswered}
+use Rattle.readings.specs.Counts.{bits}
+use Rattle.readings.specs.Readings.{at_mark, disagrees, wrongs, missings, NearAnswered}
 use Rattle.readings.proofs.Agreed.{same_test}
-use Rattle.line.specs.declared.lines.Target.{Target}
-use Rattle.line.specs.Asking.{point_on, line_point, line_place, line_divisor, target, marks_fault, ask_fault}
+use Rattle.line.specs.Asking.{point_on, line_point, line_place, line_divisor, target, marks_fault}
 use Rattle.line.specs.Lines.{seen, reading_of, line_readings}
-use Rattle.line.specs.Fair.{other_symbol, is_untrue, untrues, lacking, Fair, restored}
-use Rattle.line.proofs.OnLine.{along_point, infinite, finite, on_point}
-use Rattle.line.proofs.Marks.{SoundMark, both_none, sound_mark}
-use Rattle.line.proofs.Asked.{Asked, asked}
+use Rattle.line.specs.Fair.{other_symbol, untrues, Fair, restored}
+use Rattle.line.proofs.OnLine.{infinite, finite, on_point}
+use Rattle.line.proofs.Marks.{both_none, sound_mark}
 
 module _ {F : Algebra} (L : Lawful F) where
   total_in : (p cs : List ℕ) (vs : List (List ℕ)) → total (ops F) p cs vs < F.size

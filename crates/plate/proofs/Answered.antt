@@ -1,5 +1,5 @@
 -- A line's answer as a plate's.
-use Rattle.std.proofs.Common.{◌≡◌, ℕ, ◌<◌, Bool, true, false, cond, List, set, Some, None, Ok, Err, Option, Result, sym, refl, ap, ◌∙◌, subst, arith}
+use Rattle.std.proofs.Common.{◌≡◌, ℕ, ◌<◌, true, cond, List, set, Some, None, Ok, Err, Option, Result, sym, refl, ap, subst, arith}
 use Rattle.space.specs.Counts.{cells}
 use Rattle.cells.specs.declared.entries.Entry.TheVariants.{Symbol}
 use Rattle.decode.proofs.Codes.{eval_in}

@@ -1,7 +1,7 @@
 -- What a plate that fits allows.
-use Rattle.std.proofs.Common.{◌≡◌, ℕ, ◌<◌, ◌≤◌, Bool, true, cond, ◌&&◌, eqb, ltb, leb, Some, None, Ok, Err, Result, sym, refl, ap, ◌∙◌, subst, arith}
+use Rattle.std.proofs.Common.{◌≡◌, ℕ, ◌<◌, ◌≤◌, true, eqb, ltb, Ok, Err, Result, ap, ◌∙◌, arith}
 use Rattle.std.proofs.lemmas.Bool.{and_parts, eqb-true, leb-true, eq-eqb, lt-ltb, cond-true}
-use Rattle.field.specs.Algebra.{Algebra, Lawful}
+use Rattle.field.specs.Algebra.{Algebra}
 use Rattle.space.specs.Counts.{cells}
 use Rattle.space.specs.Points.{at_place}
 use Rattle.form.specs.declared.sheet.Form.{Form}
@@ -10,7 +10,7 @@ use Rattle.form.specs.Sheets.{form_fault, check_answer, symbol_answer, unless, o
 use Rattle.form.proofs.Sound.{checked_form, no_fault}
 use Rattle.cells.specs.Stores.{Meaning, count_of, put_answer, unless as store_unless}
 use Rattle.cells.proofs.Cases.{put_within}
-use Rattle.plate.specs.Settings.{Setting, setting_of, fits}
+use Rattle.plate.specs.Settings.{Setting, fits}
 
 pub record Fit (s : Setting) : Type 0 where
   pub same : s.q ≡ s.field.size

@@ -1,11 +1,11 @@
 -- What lists of coefficients come to at a point.
-use Rattle.std.proofs.Common.{◌≡◌, ℕ, suc, List, [], ◌∷◌, length, sym, refl, ap, ◌∙◌}
+use Rattle.std.proofs.Common.{◌≡◌, List, [], ◌∷◌, ◌∙◌}
 use Rattle.field.specs.Algebra.{Ops}
 use Rattle.field.proofs.Abstract.{IsField}
 use Rattle.field.specs.Vectors.{add, scale}
 use Rattle.poly.specs.Poly.{eval}
 use Rattle.poly.proofs.Products.{linear}
-use Rattle.field.proofs.Ring.{ring, add_back}
+use Rattle.field.proofs.Ring.{ring}
 
 module _ {K : Type 0} {o : Ops K} (L : IsField o) where
   open o use {zero as 𝟘, one as 𝟙, plus as ◌⊕◌, times as ◌⊗◌, minus as neg}

@@ -1,11 +1,11 @@
 -- A list of coefficients that has as many distinct roots as coefficients is all zeros.
-use Rattle.std.proofs.Common.{◌≡◌, ℕ, suc, ◌≤◌, ◌≢◌, List, [], ◌∷◌, length, sym, refl, ap, ◌∙◌, arith}
+use Rattle.std.proofs.Common.{◌≡◌, suc, ◌≤◌, ◌≢◌, List, [], ◌∷◌, length, sym, refl, ap, ◌∙◌, arith}
 use Rattle.std.specs.List.{AllByRecursion}
 use Rattle.field.specs.Algebra.{Ops}
 use Rattle.field.proofs.Abstract.{IsField}
 use Rattle.field.specs.Vectors.{add, scale}
 use Rattle.poly.specs.Poly.{eval, Distinct}
-use Rattle.field.proofs.Ring.{ring, add_back, no_zero_divisor, differ, cancel, zero_add, neg_one, same}
+use Rattle.field.proofs.Ring.{ring, add_back, no_zero_divisor, differ, zero_add, neg_one, same}
 use Rattle.poly.proofs.Evals.{eval_add, eval_scale}
 
 module _ {K : Type 0} (o : Ops K) where

@@ -1,5 +1,5 @@
 -- From elements to codes.
-use Rattle.std.proofs.Common.{◌≡◌, ℕ, suc, ◌<◌, ◌≤◌, ◌≢◌, List, [], ◌∷◌, length, sym, refl, ap, ◌∙◌, arith}
+use Rattle.std.proofs.Common.{◌≡◌, ℕ, ◌<◌, ◌≢◌, List, [], ◌∷◌, sym, refl, ap, ◌∙◌, arith}
 use Rattle.std.specs.List.{AllByRecursion}
 use Rattle.field.specs.Algebra.{Algebra, Lawful, Codes, ops}
 use Rattle.field.proofs.Elements.{Elem, same_code, elems, field_of, lift, lower, lower_lift, length_lift, codes_lower, length_lower, all_lift, all_lower}

@@ -1,11 +1,11 @@
 -- What a polynomial says at the marks is what it says backwards at their points.
-use Rattle.std.proofs.Common.{◌≡◌, ℕ, zero, suc, ◌+◌, ◌-◌, ◌<◌, ◌≤◌, Bool, true, false, cond, not, ◌&&◌, ◌||◌, eqb, leb, ◌≢◌, List, [], ◌∷◌, map, reverse, length, get_or, sym, refl, ap, ◌∙◌, subst, ap₂, ⊎_elim, arith}
+use Rattle.std.proofs.Common.{◌≡◌, ℕ, suc, ◌+◌, ◌<◌, ◌≤◌, true, false, cond, not, ◌&&◌, eqb, leb, ◌≢◌, List, [], ◌∷◌, map, reverse, length, get_or, sym, refl, ap, ◌∙◌, subst, ap₂, ⊎_elim, arith}
 use Rattle.std.specs.List.{AllByRecursion}
-use Rattle.std.proofs.lemmas.Bool.{cases_eq, cases_Bool, eq-eqb, ne_eqb, eqb-true, and_parts, leb-true, not-true, or_parts, eqb-false}
-use Rattle.field.specs.Algebra.{Algebra, Lawful, Codes, inverse, ops, power}
+use Rattle.std.proofs.lemmas.Bool.{cases_eq, eq-eqb, ne_eqb, and_parts, leb-true, not-true, or_parts, eqb-false}
+use Rattle.field.specs.Algebra.{Algebra, Lawful, Codes, ops, power}
 use Rattle.field.proofs.Elements.{zero_in, power_in}
 use Rattle.field.proofs.Inverses.{inverse_at, over_only, over_positive, power_positive}
-use Rattle.poly.specs.Poly.{eval, Distinct}
+use Rattle.poly.specs.Poly.{eval}
 use Rattle.cells.specs.declared.entries.Entry.{Entry}
 use Rattle.cells.specs.declared.entries.Entry.TheVariants.{Symbol, Missing}
 use Rattle.decode.specs.Near.{Points, places, through, misses}
@@ -13,7 +13,7 @@ use Rattle.decode.specs.Fitted.{value_or}
 use Rattle.decode.proofs.Codes.{eval_in, cancel_times}
 use Rattle.readings.specs.declared.kinds.Reading.{Reading}
 use Rattle.readings.specs.Counts.{count}
-use Rattle.readings.specs.Readings.{value_of, at_mark, disagrees, is_wrong, missing_entry, is_missing, wrongs, missings, has_mark, marked}
+use Rattle.readings.specs.Readings.{value_of, at_mark, disagrees, missing_entry, wrongs, missings, has_mark, marked}
 use Rattle.readings.specs.Points.{over_mark, point_of, with_point, points_of, misses_entry, misses_reading}
 use Rattle.readings.proofs.Reversal.{at_inverse, at_infinity}
 

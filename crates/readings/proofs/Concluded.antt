@@ -1,11 +1,11 @@
 -- What the search says of the points is what the readings have for an answer.
-use Rattle.std.proofs.Common.{◌≡◌, ℕ, suc, ◌+◌, ◌-◌, ◌*◌, ◌/◌, ◌<◌, ◌≤◌, Bool, true, false, not, eqb, List, [], ◌∷◌, map, reverse, length, get_or, take, Some, None, Ok, Err, Option, Result, sym, refl, ap, ◌∙◌, subst, ap₂, arith}
+use Rattle.std.proofs.Common.{◌≡◌, ℕ, suc, ◌+◌, ◌-◌, ◌*◌, ◌<◌, ◌≤◌, true, not, eqb, List, [], ◌∷◌, map, reverse, length, get_or, take, Ok, Err, Result, sym, refl, ap, ◌∙◌, ap₂, arith}
 use Rattle.std.proofs.lemmas.List.{length-reverse, reverse-reverse, get_or-reverse, get_or-take}
 use Rattle.field.specs.Algebra.{Algebra, Lawful, Codes, ops}
 use Rattle.poly.specs.Poly.{eval}
 use Rattle.cells.specs.declared.entries.Entry.{Entry}
 use Rattle.cells.specs.declared.entries.Entry.TheVariants.{Symbol, Missing}
-use Rattle.decode.specs.Near.{Near, Found, Admissible, DecodeAnswer, misses, through}
+use Rattle.decode.specs.Near.{Near, Found, Admissible, misses}
 use Rattle.decode.proofs.Complete.{eval_cut}
 use Rattle.decode.proofs.Sole.{one_near}
 use Rattle.decode.specs.Width.{points_most}

@@ -2,7 +2,6 @@
 use Rattle.std.proofs.Common.{◌≡◌, ℕ, ◌+◌, ◌<◌, ◌≤◌, List, [], ◌∷◌, ◌++◌, length, get_or, take, drop, set, sym, refl, ap, ◌∙◌, append_assoc, arith}
 use Rattle.std.proofs.lemmas.List.{take_more_set, at_drop_more, at_drop_all, length-set, append-nil}
 use Rattle.field.specs.Algebra.{Algebra}
-use Rattle.cells.specs.declared.entries.Entry.{Entry}
 use Rattle.cells.specs.declared.entries.Entry.TheVariants.{Symbol, Missing}
 use Rattle.decode.specs.Width.{points_most}
 use Rattle.readings.specs.declared.kinds.Reading.{Reading}

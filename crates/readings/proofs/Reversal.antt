@@ -1,15 +1,15 @@
 -- A polynomial read from its other end.
-use Rattle.std.proofs.Common.{◌≡◌, ℕ, zero, suc, ◌+◌, ◌-◌, ◌<◌, List, [], ◌∷◌, ◌++◌, reverse, length, get_or, sym, refl, ap, ◌∙◌, ap₂, arith}
+use Rattle.std.proofs.Common.{◌≡◌, ℕ, suc, ◌-◌, ◌<◌, List, [], ◌∷◌, ◌++◌, reverse, length, get_or, sym, refl, ap, ◌∙◌, ap₂, arith}
 use mathlib.Core.List.{reverse_aux, reverse-cons}
 use Rattle.std.specs.List.{AllByRecursion}
 use Rattle.std.proofs.lemmas.List.{length-reverse, get_or-reverse}
 use Rattle.field.specs.Algebra.{Algebra, Lawful, Ops, Codes, ops, power}
 use Rattle.field.proofs.Abstract.{IsField}
 use Rattle.field.proofs.Ring.{ring}
-use Rattle.field.proofs.Elements.{Elem, elems, field_of, lift, lower, lower_lift, length_lift, same_code, power_lower, zero_in}
+use Rattle.field.proofs.Elements.{Elem, elems, field_of, lift, lower, lower_lift, length_lift, same_code, power_lower}
 use Rattle.field.proofs.Inverses.{times_zero}
 use Rattle.poly.specs.Poly.{eval}
-use Rattle.poly.proofs.Transfer.{eval_lift, eval_lower}
+use Rattle.poly.proofs.Transfer.{eval_lower}
 
 module _ {K : Type 0} {o : Ops K} (L : IsField o) where
   open o use {zero as 𝟘, one as 𝟙, plus as ◌⊕◌, times as ◌⊗◌}

@@ -1,8 +1,8 @@
 -- Marks as bits, and marks that can be told apart.
-use Rattle.std.proofs.Common.{◌≡◌, ℕ, zero, suc, ◌+◌, ◌-◌, ◌*◌, ◌^◌, ◌<◌, ◌≤◌, Bool, true, false, cond, not, ◌&&◌, ◌||◌, eqb, leb, ◌⊎◌, List, [], ◌∷◌, ◌++◌, map, length, get_or, take, drop, sym, refl, ap, ◌∙◌, inl, inr, mul_assoc, mul_comm, pow-suc, mul-add, arith}
+use Rattle.std.proofs.Common.{◌≡◌, ℕ, ◌+◌, ◌*◌, ◌^◌, ◌<◌, ◌≤◌, Bool, true, false, cond, not, ◌&&◌, ◌||◌, eqb, leb, ◌⊎◌, List, [], ◌∷◌, ◌++◌, map, length, get_or, take, drop, sym, refl, ap, ◌∙◌, inl, inr, mul_assoc, mul_comm, pow-suc, arith}
 use native.Mathlib.Nat.{pow-zero}
 use Rattle.std.proofs.lemmas.List.{take_more, map-append, at_drop_more, at_drop_all, length-map, length-take-le}
-use Rattle.std.proofs.lemmas.Bool.{eq-eqb, ne_eqb, le-leb, lt-leb, and_left, and_right, or_left, or_from}
+use Rattle.std.proofs.lemmas.Bool.{eq-eqb, ne_eqb, le-leb, lt-leb, and_left, and_right, or_left}
 use Rattle.readings.specs.declared.kinds.Reading.{Reading}
 use Rattle.readings.specs.Counts.{bits}
 use Rattle.readings.specs.Readings.{has_mark, marked}

@@ -1,6 +1,6 @@
 -- The readings as points of the search. With U for 1 / X the line is read from its other end: H of degree d becomes G(U) = U^d H(1 / U), whose
 -- coefficients are those of H backwards, and infinity becomes the point 0.
-use Rattle.std.specs.Prelude.{ℕ, Bool, false, cond, not, List, [], ◌∷◌, map, ◌==◌}
+use Rattle.std.specs.Prelude.{ℕ, Bool, false, cond, not, List, [], ◌∷◌, ◌==◌}
 use Rattle.field.specs.Algebra.{Algebra, inverse, ops, power}
 use Rattle.cells.specs.declared.entries.Entry.{Entry}
 use Rattle.cells.specs.declared.entries.Entry.TheVariants.{Symbol, Missing}

@@ -1,5 +1,5 @@
 -- The remainders modulo q are a field, for each q at which the test of its inverses passes.
-use Rattle.std.specs.Prelude.{◌≡◌, ℕ, ◌+◌, ◌-◌, ◌*◌, ◌/◌, ◌%◌, ◌<◌, T, refl}
+use Rattle.std.specs.Prelude.{◌≡◌, ℕ, ◌+◌, ◌-◌, ◌*◌, ◌/◌, ◌%◌, ◌<◌, T}
 use Rattle.std.proofs.Common.{sym, ap, ◌∙◌, add_comm, add_assoc, mul_comm, mul_assoc, mul-add, add-mul, mul-one, add-zero, mod-lt, mod-eq_of_lt, arith}
 use Rattle.std.proofs.Math.Nat.{mod_self, mod-add-mod, add-mod-mod, div-add-mod, mul-add-mod_self_left}
 use Rattle.field.specs.Algebra.{Lawful}

@@ -29,7 +29,7 @@ pub struct Residue<M> {
 impl<M: Modulus> Field for Residue<M> {
     const Q: u8 = M::Q;
 
-    ghost algebra = { residues M.Modulus.modulus };
+    ghost algebra = { residues M.modulus };
 
     ghost lawful = { Prim.search rules };
 

@@ -1,5 +1,5 @@
 -- Single calls of a history.
-use Rattle.std.proofs.Common.{◌≡◌, ℕ, zero, suc, ◌≤◌, ◌⊎◌, List, [], ◌∷◌, Some, None, Ok, Err, Option, Result, sym, refl, ap, ◌∙◌, subst, inl, inr}
+use Rattle.std.proofs.Common.{◌≡◌, ℕ, zero, suc, ◌≤◌, ◌⊎◌, List, [], ◌∷◌, Some, None, Err, Option, Result, sym, refl, ap, ◌∙◌, subst, inl, inr}
 use Rattle.field.specs.Algebra.{Lawful}
 use Rattle.readings.specs.declared.kinds.AnsweredLine.{AnsweredLine}
 use Rattle.readings.specs.declared.kinds.AnswerFault.{AnswerFault}
@@ -7,7 +7,7 @@ use Rattle.plate.specs.declared.faults.PlateFault.{PlateFault}
 use Rattle.plate.specs.Settings.{Setting}
 use Rattle.plate.specs.Requests.{Request, Answer, Cells, refusal, Sound, line_answer, LineAnswers, Does, Unless, Happens}
 use Rattle.plate.specs.Requests.Request.{Burn, Correct, Mend}
-use Rattle.runs.specs.Histories.{Moment, History, Leads, At, Accepted, Burns, LastBurn}
+use Rattle.runs.specs.Histories.{Moment, History, Leads, At, Accepted, Burns}
 use Rattle.runs.specs.Laws.{FairRestored}
 use Rattle.runs.proofs.OnLines.{fair_reply}
 

@@ -8,7 +8,7 @@ use Rattle.plate.specs.declared.calls.Call.{Call}
 use Rattle.plate.specs.Settings.{Setting, setting_of}
 use Rattle.plate.specs.Requests.{Request, Answer, Cells, Happens, Acts}
 use Rattle.plate.specs.Asked.{request}
-use Rattle.runs.specs.Histories.{Moment, History, Leads, Ran, requests, answers}
+use Rattle.runs.specs.Histories.{Moment, History, Leads, Ran}
 use Rattle.runs.specs.Laws.{LawfulRun}
 use Rattle.runs.proofs.Moments.{fair_restored}
 use Rattle.runs.proofs.Untrue.{happens_length, untrue_explained}

@@ -1,12 +1,11 @@
 -- What is known of a line's answer on a plate: there is one, and on a fair line it is the form's.
-use Rattle.std.proofs.Common.{◌≡◌, ℕ, ◌<◌, ◌≤◌, Bool, true, false, cond, eqb, List, [], map, Some, None, Ok, Err, Option, Result, sym, refl, ap, ◌∙◌, subst, arith}
+use Rattle.std.proofs.Common.{◌≡◌, ℕ, ◌≤◌, Bool, true, false, cond, eqb, List, [], Some, None, Ok, Option, Result, sym, refl, ◌∙◌, subst, arith}
 use Rattle.std.proofs.lemmas.Bool.{eq-eqb, cond-true}
 use Rattle.field.specs.Algebra.{Algebra, Lawful, Codes}
 use Rattle.space.specs.Places.{point_of}
 use Rattle.form.specs.declared.faults.FormFault.{FormFault}
-use Rattle.form.specs.Sheets.{form_fault, coefficient_fault}
+use Rattle.form.specs.Sheets.{coefficient_fault}
 use Rattle.form.proofs.Sound.{sound_form}
-use Rattle.readings.specs.declared.kinds.Reading.{Reading}
 use Rattle.readings.specs.declared.kinds.AnsweredLine.{AnsweredLine}
 use Rattle.readings.specs.declared.kinds.AnswerFault.{AnswerFault}
 use Rattle.readings.specs.Readings.{Answers, marked}
@@ -20,9 +19,9 @@ use Rattle.line.proofs.Restored.{fair_answer}
 use Rattle.plate.specs.declared.faults.PlateFault.{PlateFault}
 use Rattle.plate.specs.declared.faults.PlateFault.TheVariants.{Unfit}
 use Rattle.plate.specs.Settings.{Setting, fits}
-use Rattle.plate.specs.Requests.{Request, Cells, of_form, of_line, argument_fault, refusal, Sound, LineAnswers}
+use Rattle.plate.specs.Requests.{Cells, of_form, of_line, argument_fault, Sound, LineAnswers}
 use Rattle.plate.specs.Requests.Request.{Burn, Correct}
-use Rattle.plate.proofs.Fitting.{Fit, fit}
+use Rattle.plate.proofs.Fitting.{fit}
 use Rattle.runs.specs.Histories.{FairLine}
 
 chosen : (b : Bool) (o : Option PlateFault) (f : PlateFault) → cond b o (Some f) ≡ None → (b ≡ true) × (o ≡ None)

@@ -6,7 +6,7 @@ use Rattle.std.proofs.lemmas.Bool.{cases_eq, cases_lt}
 use Rattle.std.proofs.ByRecursion.{All-weaker}
 use Rattle.field.specs.Algebra.{Lawful}
 use Rattle.cells.specs.declared.entries.Entry.{Entry}
-use Rattle.cells.specs.declared.entries.Entry.TheVariants.{Symbol, Missing}
+use Rattle.cells.specs.declared.entries.Entry.TheVariants.{Missing}
 use Rattle.readings.specs.declared.kinds.Reading.{Reading}
 use Rattle.readings.specs.declared.kinds.AnsweredLine.{AnsweredLine}
 use Rattle.readings.specs.declared.kinds.AnswerFault.{AnswerFault}
@@ -15,7 +15,7 @@ use Rattle.line.specs.Lines.{seen, line_readings}
 use Rattle.plate.specs.declared.faults.PlateFault.{PlateFault}
 use Rattle.plate.specs.declared.calls.Reply.TheVariants.{Told}
 use Rattle.plate.specs.Settings.{Setting}
-use Rattle.plate.specs.Requests.{Request, Answer, Cells, entry, refusal, Sound, codeword, line_answer, mended, LineAnswers, Does, Unless, Happens}
+use Rattle.plate.specs.Requests.{Request, Answer, Cells, entry, refusal, Sound, codeword, line_answer, mended, Does, Unless, Happens}
 use Rattle.plate.specs.Requests.Request.{Burn, Spoil, Read, Correct, Mend}
 use Rattle.runs.specs.Histories.{Moment, History, Leads, Ran, requests, answers, MarksRead, Reads, IsSpoil, No, UnreadSpoil, without, only}
 use Rattle.runs.specs.Laws.{UnreadSpoils}

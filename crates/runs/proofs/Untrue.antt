@@ -8,17 +8,16 @@ use Rattle.cells.specs.declared.entries.Entry.{Entry}
 use Rattle.cells.specs.declared.entries.Entry.TheVariants.{Symbol, Missing}
 use Rattle.readings.specs.declared.kinds.AnsweredLine.{AnsweredLine}
 use Rattle.readings.specs.declared.kinds.AnswerFault.{AnswerFault}
-use Rattle.line.specs.Fair.{restored}
 use Rattle.plate.specs.declared.faults.PlateFault.{PlateFault}
 use Rattle.plate.specs.declared.calls.Reply.{Reply}
 use Rattle.plate.specs.declared.calls.Reply.TheVariants.{Done, Corrected}
 use Rattle.plate.specs.Settings.{Setting}
 use Rattle.plate.specs.Requests.{Request, Answer, Cells, entry, refusal, Sound, codeword, line_answer, mended, LineAnswers, Does, Unless, Happens}
 use Rattle.plate.specs.Requests.Request.{Burn, Spoil, Read, Correct, Mend}
-use Rattle.runs.specs.Histories.{Moment, History, Leads, At, Accepted, Burns, LastBurn, true_symbol, IsPut, Puts, LastPut, Mars}
+use Rattle.runs.specs.Histories.{Moment, History, Leads, At, Accepted, Burns, true_symbol, IsPut, Puts, LastPut, Mars}
 use Rattle.runs.specs.Laws.{UntrueExplained}
 use Rattle.runs.proofs.OnLines.{fair_reply}
-use Rattle.runs.proofs.Moments.{happened, unless_none, refused_not, burned_sound}
+use Rattle.runs.proofs.Moments.{unless_none, refused_not, burned_sound}
 
 ok_accepted : (a : Answer) (r : Reply) → a ≡ Ok r → Accepted a
 ok_accepted a r e = subst Accepted (sym e) tt

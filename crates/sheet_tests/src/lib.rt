@@ -1,9 +1,9 @@
+// Examples of fields, shapes, points and forms.
 #![tactic(auto)]
 
 ghost use Rattle.std.proofs.Common.{lit<};
 ghost use Rattle.residue.specs.Remainders.{residues_lawful};
 
-// Examples of fields, shapes, points and forms.
 #[cfg(test)]
 mod tests {
     use binary::{B4, B16};

@@ -1,5 +1,5 @@
 -- The columns, and the table of counts.
-use Rattle.std.proofs.Common.{◌≡◌, ℕ, zero, suc, ◌-◌, ◌<◌, ◌≤◌, Bool, false, eqb, List, [], ◌∷◌, length, get_or, sym, refl, ap, ◌∙◌, arith, eqb→eq}
+use Rattle.std.proofs.Common.{◌≡◌, ℕ, suc, ◌-◌, ◌<◌, ◌≤◌, Bool, false, eqb, List, [], ◌∷◌, length, get_or, sym, refl, ap, ◌∙◌, arith, eqb→eq}
 use Rattle.std.proofs.lemmas.Bool.{ne_eqb}
 use Rattle.field.proofs.Every.{every, at}
 use Rattle.space.specs.Counts.{columns, counts, cells, member, has_column}

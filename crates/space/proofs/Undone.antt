@@ -1,11 +1,11 @@
 -- Places and points undo each other.
-use Rattle.std.proofs.Common.{◌≡◌, ℕ, zero, suc, ◌+◌, ◌-◌, ◌*◌, ◌/◌, ◌%◌, ◌^◌, ◌<◌, ◌≤◌, Bool, true, false, cond, eqb, ltb, List, [], ◌∷◌, length, drop, replicate, sym, refl, ap, ◌∙◌, subst, ⊎_elim, add_assoc, mod-lt, mod-eq_of_lt, mul_assoc, mul_comm, add-mul, pow-suc, arith}
+use Rattle.std.proofs.Common.{◌≡◌, ℕ, zero, suc, ◌+◌, ◌-◌, ◌*◌, ◌/◌, ◌%◌, ◌^◌, ◌<◌, ◌≤◌, false, eqb, List, [], ◌∷◌, length, drop, replicate, sym, refl, ap, ◌∙◌, ⊎_elim, mod-lt, mod-eq_of_lt, mul_assoc, mul_comm, add-mul, pow-suc, arith}
 use native.Mathlib.Nat.{pow-zero, mod-one}
 use lib.Arith.{mod-mul, digits_lt, digits_div, digits_mod}
 use Rattle.std.specs.List.{AllByRecursion}
 use Rattle.std.proofs.lemmas.Bool.{cases_lt, lt-ltb, le-ltb, ne_eqb}
 use Rattle.space.specs.Counts.{cells}
-use Rattle.space.specs.Places.{divisor, number, place_of, digits, point_at, point_of, Normal, Undo}
+use Rattle.space.specs.Places.{divisor, number, place_of, digits, point_at, Undo}
 
 pub not_zero : (x : ℕ) → eqb (suc x) 0 ≡ false
 not_zero x = ne_eqb (suc x) 0 (λ (e : suc x ≡ 0). omega arith)

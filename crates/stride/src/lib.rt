@@ -11,7 +11,6 @@ use layer::{put_at, read_at, wipe_at};
 mod pair;
 mod pairs;
 
-use fault::Fault;
 pub use pair::{StrideFault, StridePair};
 
 // Entry i is entry (step × i) mod n below. Over a store with fewer than n entries there is none.

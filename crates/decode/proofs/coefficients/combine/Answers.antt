@@ -1,8 +1,7 @@
-use Rattle.std.proofs.Common.{◌≡◌, ℕ, ◌<◌, length, get_or, set, sym, ap, ◌∙◌, arith}
+use Rattle.std.proofs.Common.{◌≡◌, get_or, ◌∙◌, arith}
 use Rattle.std.proofs.lemmas.List.{length-set, ext_get_or}
 use Rattle.std.proofs.lemmas.List.Edits.{fill_by_more}
 use Rattle.field.specs.Algebra.{ops}
-use Rattle.decode.specs.Width.{width}
 use Rattle.decode.specs.Coefficients.{mix}
 use Rattle.decode.proofs.Places.{length_mix, getD_mix}
 use Rattle.decode.proofs.coefficients.combine.Goals as goal

@@ -1,10 +1,9 @@
-use Rattle.std.proofs.Common.{◌≡◌, ℕ, suc, ◌<◌, length, get_or, set, sym, refl, ap, ◌∙◌, add-one, arith}
+use Rattle.std.proofs.Common.{◌≡◌, get_or, refl, ◌∙◌, add-one, arith}
 use Rattle.std.proofs.lemmas.List.{length-set, ext_get_or}
 use Rattle.std.proofs.lemmas.List.Edits.{fill_by_more}
 use Rattle.field.specs.Algebra.{ops}
-use Rattle.decode.specs.Width.{width}
 use Rattle.decode.specs.Coefficients.{raise}
-use Rattle.decode.proofs.Places.{length_raise, getD_raise, before}
+use Rattle.decode.proofs.Places.{length_raise, getD_raise}
 use Rattle.decode.proofs.coefficients.times_factor.Goals as goal
 
 pub loop-k-preserved : goal.loop-k-preserved

@@ -1,4 +1,4 @@
-use Rattle.std.proofs.Common.{◌≡◌, ◌+◌, ◌<◌, length, get_or, sym, refl, ap, ◌∙◌, subst, arith}
+use Rattle.std.proofs.Common.{◌+◌, sym, refl, subst, arith}
 use Rattle.decode.specs.Width.{top}
 use Rattle.decode.specs.declared.key.Pair.{Pair}
 use Rattle.decode.specs.Pairs.{Leads}

@@ -1,4 +1,4 @@
-use Rattle.std.proofs.Common.{◌≡◌, suc, ◌+◌, ◌<◌, ◌≤◌, true, false, not, eqb, length, get_or, sym, refl, ap, ◌∙◌, subst, arith}
+use Rattle.std.proofs.Common.{◌≡◌, suc, ◌+◌, ◌≤◌, true, false, not, length, get_or, sym, refl, ap, ◌∙◌, subst, arith}
 use Rattle.std.proofs.lemmas.List.{take_all}
 use Rattle.std.proofs.lemmas.Bool.{eq-eqb, ne_eqb}
 use Rattle.poly.specs.Poly.{eval}
@@ -6,7 +6,7 @@ use Rattle.decode.specs.Width.{top}
 use Rattle.decode.specs.declared.newton.Fit.{Fit}
 use Rattle.field.specs.Algebra.{ops}
 use Rattle.decode.specs.Near.{usable, picked}
-use Rattle.decode.specs.Fitted.{Fitting, fitted_of}
+use Rattle.decode.specs.Fitted.{Fitting}
 use Rattle.decode.proofs.OnePoint.{none_from, skipped, more}
 use Rattle.decode.proofs.newton.interpolate.Goals.{then-evaluate-ne0, else-evaluate-ne0, then-loop-i-test+else-fit-d, else-loop-i-test}
 use Rattle.decode.proofs.newton.interpolate.Goals as goal

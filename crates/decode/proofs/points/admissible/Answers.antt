@@ -1,6 +1,6 @@
-use Rattle.std.proofs.Common.{◌≡◌, ℕ, ◌<◌, true, false, length, get_or, sym, refl, ap, ◌∙◌, subst, arith}
+use Rattle.std.proofs.Common.{◌<◌, false, sym, arith}
 use Rattle.std.proofs.ByRecursion.{All-get_or, All-from_get_or}
-use Rattle.decode.specs.Near.{Points, Fresh}
+use Rattle.decode.specs.Near.{Fresh}
 use Rattle.decode.proofs.Picked.{apart_at, apart_from}
 use Rattle.decode.proofs.points.admissible.Goals.{then-points-i-via-then-points-i, then-points-i-via-else-points-i+then-points-i-2}
 use Rattle.decode.proofs.points.admissible.Goals as goal

@@ -1,4 +1,4 @@
-use Rattle.std.proofs.Common.{◌≡◌, ℕ, ◌<◌, true, get_or}
+use Rattle.std.proofs.Common.{ℕ, ◌<◌, true, get_or}
 use Rattle.decode.specs.Near.{Fresh}
 use Rattle.decode.proofs.points.admissible.Given as goal
 

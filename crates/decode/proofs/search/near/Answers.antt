@@ -1,4 +1,4 @@
-use Rattle.std.proofs.Common.{◌≡◌, length, sym, refl, ap, ◌∙◌, subst, arith}
+use Rattle.std.proofs.Common.{arith}
 use Rattle.decode.proofs.Final.{found_near, none_nearer, none_at_all}
 use Rattle.decode.proofs.search.near.Goals as goal
 

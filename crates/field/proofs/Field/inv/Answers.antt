@@ -1,4 +1,4 @@
-use Rattle.std.proofs.Common.{sym, ap, ◌∙◌, arith}
+use Rattle.std.proofs.Common.{sym, ◌∙◌, arith}
 use Rattle.field.proofs.Inverses.{inverse_is, inverse_none}
 use Rattle.field.proofs.Field.inv.Goals as goal
 

@@ -1,4 +1,4 @@
-use Rattle.std.proofs.Common.{◌≡◌, ◌*◌, ◌^◌, sym, refl, ap, ◌∙◌, one-mul, pow-suc, arith}
+use Rattle.std.proofs.Common.{◌≡◌, ◌*◌, ◌^◌, sym, ap, ◌∙◌, one-mul, pow-suc, arith}
 use native.Mathlib.Nat.{pow-zero}
 use Rattle.std.proofs.lemmas.Nat.{mul-le}
 use Rattle.form.proofs.calls.power.Goals as goal

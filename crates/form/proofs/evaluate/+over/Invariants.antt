@@ -1,4 +1,4 @@
-use Rattle.std.proofs.Common.{◌≡◌, ◌+◌, ◌≤◌, length, drop}
+use Rattle.std.proofs.Common.{◌≡◌, ◌+◌, length, drop}
 use Rattle.field.specs.Algebra.{ops}
 use Rattle.form.specs.Evaluation.{nested, terms}
 use Rattle.form.proofs.evaluate.+over.Given as goal

@@ -1,6 +1,6 @@
-use Rattle.std.proofs.Common.{◌≡◌, ℕ, suc, ◌+◌, ◌*◌, ◌/◌, ◌<◌, ◌≤◌, Bool, T, eqb, sym, refl, ap, ◌∙◌, arith, eqb→eq}
+use Rattle.std.proofs.Common.{◌≡◌, ℕ, ◌+◌, ◌*◌, ◌/◌, ◌<◌, Bool, T, eqb, sym, ap, ◌∙◌, arith, eqb→eq}
 use Rattle.field.proofs.Every.{every, at}
-use Rattle.form.specs.Forms.{choose, coefficient_count}
+use Rattle.form.specs.Forms.{choose}
 use Rattle.form.proofs.Ordered.{vectors_listed}
 use Rattle.form.proofs.evaluate.binomial.Goals as goal
 

@@ -1,4 +1,4 @@
-use Rattle.std.proofs.Common.{◌≡◌, ℕ, get_or, take, sym, ap, ◌∙◌, arith}
+use Rattle.std.proofs.Common.{◌≡◌, get_or, take, sym, ap, ◌∙◌, arith}
 use Rattle.space.specs.Counts.{member}
 use Rattle.line.proofs.Marks.{member_at, member_more}
 use Rattle.line.proofs.ask.came_before.Goals as goal

@@ -1,4 +1,4 @@
-use Rattle.std.proofs.Common.{◌≡◌, ℕ, sym, ap, ◌∙◌}
+use Rattle.std.proofs.Common.{sym, ap, ◌∙◌}
 use Rattle.cells.specs.declared.entries.Entry.{Entry}
 use Rattle.readings.specs.declared.kinds.Reading.{Reading}
 use Rattle.line.specs.Lines.{seen}

@@ -1,5 +1,5 @@
-use Rattle.std.proofs.Common.{◌≡◌, ℕ, ◌<◌, sym, ap, ◌∙◌, subst, arith}
-use Rattle.space.specs.Places.{Point, divisor}
+use Rattle.std.proofs.Common.{◌≡◌, ℕ, ap, ◌∙◌, subst, arith}
+use Rattle.space.specs.Places.{Point}
 use Rattle.space.specs.Points.{location}
 use Rattle.line.proofs.OnLine.{on_point, located}
 use Rattle.line.proofs.moves.target.Goals as goal

@@ -1,9 +1,8 @@
-use Rattle.std.proofs.Common.{◌≡◌, ℕ, ◌-◌, ◌<◌, ◌≤◌, List, length, take, Some, None, sym, refl, ap, ◌∙◌, subst, arith, rules}
+use Rattle.std.proofs.Common.{◌≡◌, ℕ, ◌-◌, ◌<◌, List, length, take, Some, None, refl, ap, ◌∙◌, subst, arith, rules}
 use Rattle.std.proofs.lemmas.List.{length-take-le}
 use Rattle.decode.specs.Near.{DecodeAnswer}
 use Rattle.decode.specs.Width.{points_most}
 use Rattle.readings.specs.Readings.{symbols_read}
-use Rattle.readings.specs.Points.{points_of}
 use Rattle.readings.proofs.Agreed.{points_counted}
 use Rattle.readings.proofs.Concluded.{too_few, none_explains, found_explains, admissible}
 use Rattle.readings.proofs.decide.decide.Goals as goal

@@ -1,5 +1,5 @@
-use Rattle.std.proofs.Common.{◌≡◌, ℕ, ◌+◌, List, sym, subst, ap₂, arith}
-use Rattle.readings.proofs.Filled.{Filled, filled_none, filled_symbol, filled_missing, filled_all}
+use Rattle.std.proofs.Common.{arith}
+use Rattle.readings.proofs.Filled.{filled_none, filled_symbol, filled_missing, filled_all}
 use Rattle.readings.proofs.points.points.Goals.{in-Symbol, in_default}
 use Rattle.readings.proofs.points.points.Goals as goal
 

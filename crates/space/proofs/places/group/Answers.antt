@@ -1,4 +1,4 @@
-use Rattle.std.proofs.Common.{◌≡◌, ℕ, suc, ◌+◌, ◌-◌, ◌^◌, ◌<◌, ◌≤◌, sym, refl, ap, ◌∙◌, arith}
+use Rattle.std.proofs.Common.{◌≡◌, suc, ◌+◌, ◌-◌, ◌^◌, ◌<◌, ◌≤◌, sym, refl, ◌∙◌, arith}
 use Rattle.space.specs.Places.{group_of}
 use Rattle.space.proofs.Spells.{group_here, group_there}
 use Rattle.space.proofs.places.group.Goals as goal

@@ -1,4 +1,4 @@
-use Rattle.std.proofs.Common.{◌≡◌, ℕ, ◌+◌, ◌-◌, ◌<◌, length, get_or, refl, ap, ◌∙◌, arith, rules}
+use Rattle.std.proofs.Common.{◌≡◌, ◌+◌, ◌-◌, length, get_or, refl, ap, ◌∙◌, arith, rules}
 use Rattle.space.specs.Places.{place_of, point_of}
 use Rattle.space.proofs.Undone.{undone}
 use Rattle.space.proofs.Ranks.{ranked_start, ranked_zero, ranked_more, term_most, heavier}

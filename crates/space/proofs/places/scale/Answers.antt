@@ -1,4 +1,4 @@
-use Rattle.std.proofs.Common.{◌≡◌, length, sym, refl, ap, ◌∙◌, rules}
+use Rattle.std.proofs.Common.{◌≡◌, length, ap, rules}
 use Rattle.field.specs.Algebra.{ops}
 use Rattle.field.specs.Vectors.{scale}
 use Rattle.space.proofs.Fours.{of_four}

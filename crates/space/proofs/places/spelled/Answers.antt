@@ -1,4 +1,4 @@
-use Rattle.std.proofs.Common.{arith, rules}
+use Rattle.std.proofs.Common.{arith}
 use Rattle.space.proofs.Spells.{spelled_start, spelled_next, spelled_end}
 use Rattle.space.proofs.places.spelled.Goals as goal
 

@@ -1,4 +1,4 @@
-use Rattle.std.proofs.Common.{◌≡◌, ◌-◌, replicate, sym, refl, ap, ◌∙◌, subst, arith}
+use Rattle.std.proofs.Common.{◌≡◌, ◌-◌, replicate, sym, ap, ◌∙◌, subst, arith}
 use Rattle.space.specs.Places.{Normal, place_of, point_of}
 use Rattle.space.proofs.Undone.{undone}
 use Rattle.space.proofs.Spells.{group_within, group_point}

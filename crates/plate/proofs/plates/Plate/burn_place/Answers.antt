@@ -1,4 +1,4 @@
-use Rattle.std.proofs.Common.{◌≡◌, ℕ, ◌<◌, sym, refl, ap, ◌∙◌, subst, arith}
+use Rattle.std.proofs.Common.{◌<◌, sym, refl, ◌∙◌, subst, arith}
 use Rattle.space.specs.declared.shape.Shape.{Shape}
 use Rattle.space.specs.Counts.{cells}
 use Rattle.space.specs.Places.{point_of}
