@@ -29,6 +29,10 @@ pub record Remainder (d m p r : ℕ) : Type 0 where
   pub quotient : ℕ
   pub differs : p ≡ bit_xor r (product m quotient d)
 
+-- Each product of two polynomials of degree below d is the remainder of the unreduced product by m.
+abbrev pub Reduces : ℕ → ℕ → Type 0
+Reduces d m = (a b : ℕ) → a < 2 ^ d → b < 2 ^ d → Remainder d m (product a b d) (product_by d m a b)
+
 -- the table of products: entry b of row a is a times b
 abbrev pub products : ℕ → ℕ → List (List ℕ)
 products d m = map (λ a. map (product_by d m a) (range_with_len 0 (2 ^ d))) (range_with_len 0 (2 ^ d))

@@ -8,7 +8,7 @@ use Rattle.std.proofs.lemmas.List.FromFn.{get_or-map-range_with_len}
 use Rattle.field.specs.Algebra.{Lawful}
 use Rattle.field.proofs.Every.{every, at, at_pair, at_triple}
 use Rattle.field.proofs.Within.{inverts, lawful}
-use Rattle.binary.specs.Binary.{has, product, product_by, Remainder, products, polynomials, inverses}
+use Rattle.binary.specs.Binary.{has, product, product_by, Remainder, Reduces, products, polynomials, inverses}
 
 -- the multiple of m that `remainder` takes off
 abbrev pub quotient : ℕ → ℕ → ℕ → ℕ → ℕ
@@ -41,7 +41,7 @@ module _ (d m : ℕ) where
   abbrev pub triples : (ℕ → ℕ → ℕ → Bool) → Bool
   triples f = every (λ a. every (λ b. every (f a b) (2 ^ d)) (2 ^ d)) (2 ^ d)
 
-  pub remainder_of_product : T (pairs inside) → T (pairs divides) → (a b : ℕ) → a < 2 ^ d → b < 2 ^ d → Remainder d m (product a b d) (product_by d m a b)
+  pub remainder_of_product : T (pairs inside) → T (pairs divides) → Reduces d m
   remainder_of_product t u a b i j = record {
     low = ltb→lt _ _ (at_pair inside (2 ^ d) t a b i j);
     quotient = quotient d m (d - 1) (product a b d);
@@ -70,13 +70,13 @@ module _ (d m : ℕ) where
     pub exact : slice_index (slice_index_or t a []) b ≡ product_by d m a b
     pub reduced : Remainder d m (product a b d) (slice_index (slice_index_or t a []) b)
 
-  pub looked_up : T (pairs inside) → T (pairs divides) → (t : List (List ℕ)) → t ≡ products d m → (a b : ℕ) → a < 2 ^ d → b < 2 ^ d → LookedUp t a b
-  looked_up u v t e a b i j =
+  pub looked_up : Reduces d m → (t : List (List ℕ)) → t ≡ products d m → (a b : ℕ) → a < 2 ^ d → b < 2 ^ d → LookedUp t a b
+  looked_up reduces t e a b i j =
       let x : slice_index (slice_index_or t a []) b ≡ product_by d m a b =
       ap (λ w. slice_index (slice_index_or w a []) b) e
       ∙ ap (λ r. slice_index r b) (get_or-map-range_with_len (λ a. map (product_by d m a) (range_with_len 0 (2 ^ d))) 0 (2 ^ d) a a [] i (omega arith))
       ∙ get_or-map-range_with_len (product_by d m a) 0 (2 ^ d) b b 0 j (omega arith) in
-      record { exact = x; reduced = rw x (remainder_of_product u v a b i j) }
+      record { exact = x; reduced = rw x (reduces a b i j) }
 
   pub inverse_looked_up : (t : List ℕ) → t ≡ inverses d m → (a : ℕ) → a < 2 ^ d → slice_index t a ≡ (polynomials d m).over a
   inverse_looked_up t e a i = ap (λ w. slice_index w a) e ∙ get_or-map-range_with_len (polynomials d m).over 0 (2 ^ d) a a 0 i (omega arith)

@@ -1,10 +1,8 @@
-ghost use Rattle.std.specs.Prelude.{◌≡◌, ◌<◌};
-ghost use Rattle.binary.specs.Binary.{Remainder, inverses, polynomials, product as unreduced, product_by, products};
+ghost use Rattle.std.specs.Prelude.{◌≡◌, refl};
 ghost use Rattle.std.proofs.Common.{lit<};
-ghost use Rattle.binary.specs.Polynomials.{polynomials_lawful};
+ghost use Rattle.binary.specs.Polynomials.{polynomials_lawful, remainder_of_product};
 
-use crate::bits::{negative, sum};
-use field::Field;
+use crate::tables::{Binary, Tables};
 
 // Entry b of row a is a times b, reduced by x^4 + x + 1.
 const PRODUCTS: [[u8; 16]; 16] = [
@@ -29,71 +27,35 @@ const PRODUCTS: [[u8; 16]; 16] = [
 // Entry a is the inverse of a, and 0 at 0.
 const INVERSES: [u8; 16] = [0, 1, 9, 14, 13, 11, 7, 6, 15, 2, 12, 5, 10, 4, 3, 8];
 
-fn product_table() -> &'static [[u8; 16]; 16]
-    ensures { result.now ≡ products 4 19 }
-{
-    &PRODUCTS
-}
+// The instance of x^4 + x + 1, of degree 4.
+pub struct Quartic;
 
-fn inverse_table() -> &'static [u8; 16]
-    ensures { result.now ≡ inverses 4 19 }
-{
-    &INVERSES
-}
+// An instance: its numbers, its tables and the proofs that are computed at them.
+impl Tables<16> for Quartic {
+    ghost degree = { 4 };
 
-fn product(a: u8, b: u8) -> u8
-    requires { (a < 16) × (b < 16) }
-    ensures exact { result ≡ product_by 4 19 a b }
-    ensures reduced { Remainder 4 19 (unreduced a b 4) result }
-{
-    product_table()[a as usize][b as usize]
-}
+    ghost modulus = { 19 };
 
-fn inverse(a: u8) -> u8
-    requires { (0 < a) × (a < 16) }
-    ensures { result ≡ (polynomials 4 19).over a }
-{
-    inverse_table()[a as usize]
-}
+    ghost Q = { 16 };
 
-// The polynomials over two elements of degree below 4.
-pub struct B16;
+    ghost sized = { refl };
 
-impl Field for B16 {
-    const Q: u8 = 16;
-
-    ghost algebra = { polynomials 4 19 };
+    ghost wide = { refl };
 
     ghost lawful = { polynomials_lawful 4 19 (lit< tt) tt tt tt tt tt tt };
 
-    fn size() -> u8 {
-        Self::Q
+    ghost reduces = { remainder_of_product 4 19 tt tt };
+
+    const Q: u8 = 16;
+
+    fn product_table() -> &'static [[u8; 16]; 16] {
+        &PRODUCTS
     }
 
-    fn add(a: u8, b: u8) -> u8 {
-        sum(Self::Q, a, b)
-    }
-
-    fn neg(a: u8) -> u8 {
-        negative(Self::Q, a)
-    }
-
-    fn mul(a: u8, b: u8) -> u8
-        ensures exact { result ≡ (polynomials 4 19).times a b }
-        ensures reduced { a < 16 → b < 16 → Remainder 4 19 (unreduced a b 4) result }
-    {
-        if a < Self::Q && b < Self::Q {
-            product(a, b)
-        } else {
-            0
-        }
-    }
-
-    fn inv(a: u8) -> Option<u8> {
-        if 0 < a && a < Self::Q {
-            Some(inverse(a))
-        } else {
-            None
-        }
+    fn inverse_table() -> &'static [u8; 16] {
+        &INVERSES
     }
 }
+
+// The polynomials over two elements of degree below 4.
+pub type B16 = Binary<Quartic, 16>;

@@ -1,10 +1,8 @@
-ghost use Rattle.std.specs.Prelude.{◌≡◌, ◌<◌};
-ghost use Rattle.binary.specs.Binary.{Remainder, inverses, polynomials, product as unreduced, product_by, products};
+ghost use Rattle.std.specs.Prelude.{◌≡◌, refl};
 ghost use Rattle.std.proofs.Common.{lit<};
-ghost use Rattle.binary.specs.Polynomials.{polynomials_lawful};
+ghost use Rattle.binary.specs.Polynomials.{polynomials_lawful, remainder_of_product};
 
-use crate::bits::{negative, sum};
-use field::Field;
+use crate::tables::{Binary, Tables};
 
 // Entry b of row a is a times b, reduced by x^3 + x + 1.
 const PRODUCTS: [[u8; 8]; 8] = [
@@ -21,71 +19,35 @@ const PRODUCTS: [[u8; 8]; 8] = [
 // Entry a is the inverse of a, and 0 at 0.
 const INVERSES: [u8; 8] = [0, 1, 5, 6, 7, 2, 3, 4];
 
-fn product_table() -> &'static [[u8; 8]; 8]
-    ensures { result.now ≡ products 3 11 }
-{
-    &PRODUCTS
-}
+// The instance of x^3 + x + 1, of degree 3.
+pub struct Cubic;
 
-fn inverse_table() -> &'static [u8; 8]
-    ensures { result.now ≡ inverses 3 11 }
-{
-    &INVERSES
-}
+// An instance: its numbers, its tables and the proofs that are computed at them.
+impl Tables<8> for Cubic {
+    ghost degree = { 3 };
 
-fn product(a: u8, b: u8) -> u8
-    requires { (a < 8) × (b < 8) }
-    ensures exact { result ≡ product_by 3 11 a b }
-    ensures reduced { Remainder 3 11 (unreduced a b 3) result }
-{
-    product_table()[a as usize][b as usize]
-}
+    ghost modulus = { 11 };
 
-fn inverse(a: u8) -> u8
-    requires { (0 < a) × (a < 8) }
-    ensures { result ≡ (polynomials 3 11).over a }
-{
-    inverse_table()[a as usize]
-}
+    ghost Q = { 8 };
 
-// The polynomials over two elements of degree below 3.
-pub struct B8;
+    ghost sized = { refl };
 
-impl Field for B8 {
-    const Q: u8 = 8;
-
-    ghost algebra = { polynomials 3 11 };
+    ghost wide = { refl };
 
     ghost lawful = { polynomials_lawful 3 11 (lit< tt) tt tt tt tt tt tt };
 
-    fn size() -> u8 {
-        Self::Q
+    ghost reduces = { remainder_of_product 3 11 tt tt };
+
+    const Q: u8 = 8;
+
+    fn product_table() -> &'static [[u8; 8]; 8] {
+        &PRODUCTS
     }
 
-    fn add(a: u8, b: u8) -> u8 {
-        sum(Self::Q, a, b)
-    }
-
-    fn neg(a: u8) -> u8 {
-        negative(Self::Q, a)
-    }
-
-    fn mul(a: u8, b: u8) -> u8
-        ensures exact { result ≡ (polynomials 3 11).times a b }
-        ensures reduced { a < 8 → b < 8 → Remainder 3 11 (unreduced a b 3) result }
-    {
-        if a < Self::Q && b < Self::Q {
-            product(a, b)
-        } else {
-            0
-        }
-    }
-
-    fn inv(a: u8) -> Option<u8> {
-        if 0 < a && a < Self::Q {
-            Some(inverse(a))
-        } else {
-            None
-        }
+    fn inverse_table() -> &'static [u8; 8] {
+        &INVERSES
     }
 }
+
+// The polynomials over two elements of degree below 3.
+pub type B8 = Binary<Cubic, 8>;

@@ -4,8 +4,9 @@
 mod b16;
 mod b4;
 mod b8;
-mod bits;
+mod tables;
 
-pub use b4::B4;
-pub use b8::B8;
-pub use b16::B16;
+pub use b4::{B4, Quadratic};
+pub use b8::{B8, Cubic};
+pub use b16::{B16, Quartic};
+pub use tables::{Binary, Tables};

@@ -1,107 +1,53 @@
 // One cell a byte.
 #![tactic(auto)]
 
-ghost use Rattle.std.specs.Prelude.{◌≡◌, ℕ, ◌<◌, min, List, [], ◌∷◌};
-ghost use Rattle.cells.specs.Stores.{InAlphabet, count_of, entry_at, with_entry};
-ghost use Rattle.byte_store.specs.ByteStores.{BytesTold, byte_meaning, byte_kept};
+ghost use Rattle.std.specs.Prelude.{◌≡◌, refl};
+ghost use Rattle.byte_store.specs.ByteStores.{BytesTold, byte_meaning, byte_kept, byte_row};
+ghost use Rattle.byte_store.specs.Rows.{bytes_sound, bytes_told};
 
-use cells::{Entry, Store, StoreFault, WritableStore};
+use cells::Entry;
+use packed::{Packed, Packing, front};
 
 const MOST_CELLS: usize = 65_536;
 
-const ALPHABET: u8 = 255;
-
 // The byte 255 is missing, any other is that symbol. Bytes past 65,536 are no cells.
-#[derive(Drop)]
-pub struct ByteStore<'a> {
-    bytes: &'a mut [u8],
-}
+#[derive(Clone, Copy)]
+pub struct Bytes;
 
-impl<'a> ByteStore<'a> {
-    // Any bytes are a store.
-    pub fn new(bytes: &'a mut [u8]) -> ByteStore<'a>
-        ensures same { result.bytes.now ≡ bytes.old }
-        ensures lent { result.bytes.ghost_name ≡ bytes.entry.ghost_name }
-    {
-        ByteStore { bytes }
+pub type ByteStore<'a> = Packed<'a, Bytes>;
+
+impl Packing for Bytes {
+    ghost meaning = { byte_meaning };
+
+    ghost kept = { byte_kept };
+
+    ghost written = { byte_row };
+
+    ghost ALPHABET = { 255 };
+
+    const ALPHABET: u8 = 255;
+
+    fn count(bytes: &[u8]) -> usize {
+        front(bytes, MOST_CELLS).len()
     }
 
-    // Gives the bytes back.
-    pub fn into_bytes(self) -> &'a mut [u8]
-        ensures same { result.now ≡ self.entry.bytes.now }
-        ensures lent { result.ghost_name ≡ self.entry.bytes.ghost_name }
-    {
-        let ByteStore { bytes } = self;
-        bytes
+    fn entry(bytes: &[u8], i: usize) -> Option<Entry> {
+        let byte = front(bytes, MOST_CELLS).get(i)?;
+        Some(Entry::of_code(*byte, Self::ALPHABET))
     }
 
-    fn entry(&self, i: usize) -> Entry
-        requires { i < count_of (byte_meaning self.now.bytes.now) }
-        ensures { result ≡ entry_at (byte_meaning self.now.bytes.now) i }
-    {
-        Entry::of_code(self.bytes[i], ALPHABET)
+    #[tactic(auto, using(crate::specs::Rows::byte_count, crate::proofs::ByteCells::byte_put, crate::proofs::ByteCells::byte_rest))]
+    fn set(bytes: &mut [u8], i: usize, entry: Entry) {
+        if i < Self::count(bytes) {
+            bytes[i] = entry.code(Self::ALPHABET);
+        }
     }
 
-    fn write(&mut self, i: usize, entry: Entry)
-        requires { (i < count_of (byte_meaning self.old.bytes.now)) × (InAlphabet 255 entry) }
-        ensures done { byte_meaning self.new.bytes.now ≡ with_entry (byte_meaning self.old.bytes.now) i entry }
-        ensures kept { byte_kept self.new.bytes.now ≡ byte_kept self.old.bytes.now }
-        ensures lent { self.new.bytes.ghost_name ≡ self.old.bytes.ghost_name }
-    {
-        self.bytes[i] = entry.code(ALPHABET);
-    }
-}
+    ghost alphabet = { λ bs. refl };
 
-fn cells_of(bytes: usize) -> usize
-    ensures { result ≡ min 65536 bytes }
-{
-    bytes.min(MOST_CELLS)
-}
+    ghost sound = { bytes_sound };
 
-// A store of no cells.
-impl<'a> Default for ByteStore<'a> {
-    ghost is_default = { λ s. s.bytes.now ≡ [] };
-
-    fn default() -> ByteStore<'a> {
-        ByteStore { bytes: &mut [] }
-    }
-}
-
-impl<'a> Store for ByteStore<'a> {
-    ghost meaning = { λ s. byte_meaning s.bytes.now };
-
-    ghost Kept = { List ℕ };
-
-    ghost kept = { λ s. byte_kept s.bytes.now };
-
-    ghost lent = { λ s. s.bytes.ghost_name ∷ [] };
-
-    fn count(&self) -> usize {
-        cells_of(self.bytes.len())
-    }
-
-    fn alphabet(&self) -> u8 {
-        ALPHABET
-    }
-
-    fn read(&mut self, i: usize) -> Result<Entry, StoreFault> {
-        StoreFault::check_access(self.count(), i)?;
-        Ok(self.entry(i))
-    }
-}
-
-impl<'a> WritableStore for ByteStore<'a> {
-    fn put(&mut self, i: usize, symbol: u8) -> Result<(), StoreFault> {
-        StoreFault::check_put(self.count(), self.alphabet(), i, symbol)?;
-        self.write(i, Entry::Symbol(symbol));
-        Ok(())
-    }
-
-    fn wipe(&mut self, i: usize) -> Result<(), StoreFault> {
-        StoreFault::check_access(self.count(), i)?;
-        self.write(i, Entry::Missing);
-        Ok(())
-    }
+    ghost told = { bytes_told };
 }
 
 // What a store means and what no call changes tell which bytes stand there. This call says so, and does nothing.

@@ -3,3 +3,4 @@ pub mod Codes
 pub mod Puts
 pub mod Refusals
 pub mod Stores
+pub mod Texts

@@ -1,11 +1,15 @@
 // What stands in one cell.
-ghost use Rattle.std.specs.Prelude.{◌≡◌};
+ghost use Rattle.std.specs.Prelude.{◌≡◌, Some};
 ghost use Rattle.cells.specs.Codes.{code_entry, entry_code};
+ghost use Rattle.cells.specs.Texts.{entry_text};
 
-// A symbol is a number below the store's alphabet. Missing is what cannot be read.
-#[derive(Clone, Copy, PartialEq, Eq, Debug)]
+use std::fmt;
+
+// A symbol is a number below the store's alphabet. Missing is what cannot be read: an enum of its own, since no entry and a missing entry are not the same.
+#[derive(Clone, Copy, PartialEq, Eq, Debug, Default)]
 pub enum Entry {
     Symbol(u8),
+    #[default]
     Missing,
 }
 
@@ -28,6 +32,18 @@ impl Entry {
         match self {
             Entry::Symbol(symbol) => symbol,
             Entry::Missing => alphabet,
+        }
+    }
+}
+
+// A symbol's number, or the word missing.
+impl fmt::Display for Entry {
+    ghost output = { λ entry. Some (entry_text entry) };
+
+    fn fmt<W: fmt::Write>(&self, f: &mut fmt::Formatter<W>) -> fmt::Result {
+        match self {
+            Entry::Symbol(symbol) => write!(f, "{symbol}"),
+            Entry::Missing => write!(f, "missing"),
         }
     }
 }

@@ -3,12 +3,13 @@ ghost use Rattle.std.specs.Prelude.{◌≡◌, ◌<◌};
 ghost use Rattle.cells.specs.Refusals.{store_fault_code, fault_at, access_fault, put_fault, Checked};
 
 use fault::{Fault, FaultCode, Part};
+use thiserror::Error;
 
-#[derive(Clone, Copy, PartialEq, Eq, Debug)]
+#[derive(Clone, Copy, PartialEq, Eq, Debug, Error)]
 pub enum StoreFault {
-    // The store has no such entry.
+    #[error("the store has no entry {position}")]
     NoEntry { position: usize },
-    // The symbol to put is not below the alphabet.
+    #[error("the symbol to put into entry {position} is not below the alphabet")]
     NotASymbol { position: usize },
 }
 
@@ -52,16 +53,8 @@ impl Fault for StoreFault {
 
     fn code(&self) -> FaultCode {
         match *self {
-            StoreFault::NoEntry { position } => FaultCode {
-                part: Part::Store,
-                number: 10,
-                position,
-            },
-            StoreFault::NotASymbol { position } => FaultCode {
-                part: Part::Store,
-                number: 11,
-                position,
-            },
+            StoreFault::NoEntry { position } => Part::Store.refusal(10, position),
+            StoreFault::NotASymbol { position } => Part::Store.refusal(11, position),
         }
     }
 }

@@ -12,8 +12,8 @@ pub fn put_all<S: WritableStore>(store: &mut S, symbols: &[u8]) -> Result<(), St
     ensures kept { S.kept store.new ≡ S.kept store.old }
     ensures lent { S.lent store.new ≡ S.lent store.old }
 {
-    for i in 0..symbols.len() {
-        store.put(i, symbols[i])?;
+    for (i, symbol) in symbols.iter().enumerate() {
+        store.put(i, *symbol)?;
     }
     Ok(())
 }

@@ -5,6 +5,7 @@ ghost use Rattle.cells.specs.Stores.{Meaning, Sound, count_of, read_answer, wipe
 use crate::entries::Entry;
 use crate::faults::StoreFault;
 
+// What a call leaves alone (`same`, `kept`, `lent`) stands in each contract, here and wherever a store is lent: it speaks of before and after, and a type of one moment.
 pub trait Store {
     // The entries and the alphabet.
     ghost meaning: { Self → Meaning };
@@ -17,10 +18,9 @@ pub trait Store {
     // The ghost names of the references that the store has borrowed: whoever lent them learns by the names what stands behind them in the end.
     ghost lent: { Self → List ℕ };
 
-    // How many entries there are. Every symbol in them is below the alphabet.
+    // How many entries there are.
     fn count(&self) -> usize
-        ensures is { result ≡ count_of (meaning self.now) }
-        ensures sound { Sound (meaning self.now) };
+        ensures { result ≡ count_of (meaning self.now) };
 
     fn alphabet(&self) -> u8
         ensures { result ≡ (meaning self.now).alphabet };
@@ -31,6 +31,9 @@ pub trait Store {
         ensures same { meaning self.new ≡ meaning self.old }
         ensures kept { kept self.new ≡ kept self.old }
         ensures lent { lent self.new ≡ lent self.old };
+
+    // Every symbol is below the alphabet.
+    ghost sound: { (s : Self) → Sound (meaning s) };
 }
 
 pub trait WritableStore: Store {

@@ -13,8 +13,7 @@ use Rattle.decode.specs.Coefficients.{mix, raise}
 use Rattle.decode.proofs.Scalars as scalar
 
 pub pos_from : (n : ℕ) → (n ≡ 0 → ⊥) → 0 < n
-pos_from zero f = absurd (f refl)
-pos_from (suc n) f = omega arith
+pos_from n f = omega (arith, f)
 
 last_lift : (q : ℕ) (p : Elem q) (cs : List ℕ) (h : AllByRecursion (λ c. c < q) cs) → (last p (lift q cs h)).0 ≡ last p.0 cs
 last_lift q p [] h = refl
@@ -110,10 +109,6 @@ module _ {F : Algebra} (lawful : Lawful F) where
       ≡ F.times z (F.plus (F.times (F.plus n (F.minus (F.times z e))) f) (F.times (F.minus (F.plus m (F.minus (F.times z f)))) e))
   discrepancies_meet z n m e f hz hn hm he hf =
       ap (λ w. w.0) (scalar.discrepancies_meet (field_of lawful) (z, hz) (n, hn) (m, hm) (e, he) (f, hf))
-
-  pub minus_pos : (x : ℕ) → x < F.size → 0 < x → 0 < F.minus x
-  minus_pos x h p =
-      pos_from (F.minus x) (λ e. let z : x ≡ 0 = sym (lawful.plus_zero x h) ∙ ap (F.plus x) (sym e) ∙ lawful.plus_minus x h in omega arith)
 
   -- the factor X - u vanishes at u, and nowhere else
   pub factor_zero : (u : ℕ) → u < F.size → F.plus (F.minus u) u ≡ 0

@@ -1,9 +1,9 @@
 -- What a pair that meets every point says of near coefficients.
-use Rattle.std.proofs.Common.{◌≡◌, ℕ, zero, suc, ◌+◌, ◌-◌, ◌<◌, ◌≤◌, Bool, true, false, not, eqb, List, [], ◌∷◌, length, get_or, take, sym, refl, ap, ◌∙◌, ap₂, ⊎_elim, arith}
+use Rattle.std.proofs.Common.{◌≡◌, ℕ, zero, suc, ◌+◌, ◌-◌, ◌<◌, ◌≤◌, Bool, true, eqb, List, [], ◌∷◌, length, get_or, take, sym, refl, ap, ◌∙◌, ap₂, ⊎_elim, arith}
 use Rattle.std.specs.List.{AllByRecursion}
 use Rattle.std.proofs.lemmas.List.{length-take, get_or-take, get_or_past}
 use Rattle.std.proofs.ByRecursion.{All-weaker, All-take, All-get_or}
-use Rattle.std.proofs.lemmas.Bool.{cases_lt, eqb-true, eqb-false}
+use Rattle.std.proofs.lemmas.Bool.{cases_lt, eqb-true, eqb-false, not-true}
 use Rattle.field.specs.Algebra.{Algebra, Lawful, ops}
 use Rattle.poly.specs.Poly.{eval, Distinct}
 use Rattle.field.proofs.Elements.{Elem, same_code, elems, field_of, lift, length_lift, all_lift}
@@ -46,10 +46,6 @@ module _ {F : Algebra} (lawful : Lawful F) where
       both P Q [] a b = tt
       both P Q (u ∷ us) a b = ((a.0, b.0), both P Q us a.1 b.1)
 
-pub all_both : {X : Type 0} (P Q : X → Type 0) (xs : List X) → AllByRecursion P xs → AllByRecursion Q xs → AllByRecursion (λ x. P x × Q x) xs
-all_both P Q [] a b = tt
-all_both P Q (x ∷ xs) a b = ((a.0, b.0), all_both P Q xs a.1 b.1)
-
 module _ {F : Algebra} (lawful : Lawful F) where
   -- n is g times e everywhere where it is at more than w places
   pub located : (d w : ℕ) (us ns gs es : List ℕ) → Fits F d w ns es → AllByRecursion (λ u. u < F.size) us → AllByRecursion (λ c. c < F.size) gs → Distinct us
@@ -81,10 +77,6 @@ module _ {F : Algebra} (lawful : Lawful F) where
       let r = abstract.locate (field_of L) (lift q us in-us) NN GG EE (distinct_lift q us in-us n) (omega arith) f (omega arith) all (t, ht) in
       sym (lift-N (t, ht)) ∙ ap (λ y. y.0) r ∙ ap₂ F.times (eval_lift L gs in-gs (t, ht)) (lift-E (t, ht))
 
-not_true : (b : Bool) → not b ≡ true → b ≡ false
-not_true true e = sym e
-not_true false e = refl
-
 module _ {F : Algebra} (lawful : Lawful F) (d : ℕ) (ps : List (ℕ × ℕ)) (ok : Points F ps) (w : ℕ) (ns es : List ℕ) (fit : Fits F d w ns es)
     (meets : AllByRecursion (Meets F ns es) ps) (d-under : d ≤ w) (w-under : w + w ≤ length ps + d) (r-over : d < length ps) (e_long : 0 < length es)
     (g : List ℕ) (near : Near F d ps g) where
@@ -108,7 +100,7 @@ module _ {F : Algebra} (lawful : Lawful F) (d : ℕ) (ps : List (ℕ × ℕ)) (o
   pub exact : (p : ℕ × ℕ) → (p.0 < F.size) × (p.1 < F.size) → Meets F ns es p → usable (ops F) es p ≡ true → eval (ops F) g p.0 ≡ p.1
   exact p h m e =
       sym (cancel_times lawful (eval (ops F) es p.0) p.1 (eval (ops F) g p.0) (eval_in lawful es p.0) h.1 (eval_in lawful g p.0)
-      (eqb-false (eval (ops F) es p.0) 0 (not_true (eqb (eval (ops F) es p.0) 0) e))
+      (eqb-false (eval (ops F) es p.0) 0 (not-true (eqb (eval (ops F) es p.0) 0) e))
       (sym m ∙ everywhere p.0 h.0))
 
   -- e vanishes at few of the points

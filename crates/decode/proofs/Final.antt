@@ -1,15 +1,17 @@
 -- What is found is what is near.
-use Rattle.std.proofs.Common.{◌≡◌, ℕ, zero, suc, ◌+◌, ◌-◌, ◌/◌, ◌<◌, ◌≤◌, true, cond, eqb, ◌≢◌, List, [], ◌∷◌, length, get_or, take, sym, refl, ap, ◌∙◌, ap₂, arith}
+use Rattle.std.proofs.Common.{◌≡◌, ℕ, zero, suc, ◌+◌, ◌-◌, ◌/◌, ◌<◌, ◌≤◌, Bool, true, false, cond, eqb, leb, ◌≢◌, List, [], ◌∷◌, length, get_or, take, sym, refl, ap, ◌∙◌, ap₂, arith}
+use Rattle.std.specs.Bool.{then_some}
 use Rattle.std.specs.List.{AllByRecursion}
 use Rattle.std.proofs.lemmas.List.{length-take, length-take-le, get_or-take}
 use Rattle.std.proofs.ByRecursion.{All-weaker, All-take, All-get_or, All-from_get_or}
+use Rattle.std.proofs.lemmas.Bool.{leb-true, leb-false}
 use Rattle.field.specs.Algebra.{Algebra, Lawful, ops}
 use Rattle.field.specs.Algebra.{Ops}
 use Rattle.poly.specs.Poly.{eval, Distinct}
 use Rattle.poly.proofs.Transfer.{unique_codes}
 use Rattle.decode.specs.Width.{top}
 use Rattle.decode.specs.declared.key.Pair.{Pair}
-use Rattle.decode.specs.Near.{Points, Near, Found, Meets, places, misses, usable, picked}
+use Rattle.decode.specs.Near.{Points, Near, Found, Decoded, Meets, places, misses, usable, picked}
 use Rattle.decode.specs.Pairs.{Solution}
 use Rattle.decode.specs.Fitted.{Through}
 use Rattle.decode.proofs.Picked.{picked_all, picked_apart}
@@ -83,3 +85,11 @@ module _ {F : Algebra} (lawful : Lawful F) (d : ℕ) (ps : List (ℕ × ℕ)) (o
   pub none_at_all : length (picked (usable (ops F) x.e) ps) ≤ d → (h : List ℕ) → Near F d ps h → ⊥
   none_at_all l h near =
       omega (arith, enough lawful d ps ok ((length ps + d) / 2) x.n x.e s.fit s.meets (omega arith) (omega arith) r-over (omega (arith, s.e_long)) h near s.some)
+
+  -- the candidate, where few enough points miss it
+  pub decided : (g : List ℕ) → Through F x.e d ps g → (m : ℕ) → m ≡ misses (ops F) g ps → Decoded F d ps (then_some (leb m ((length ps - d - 1) / 2)) g)
+  decided g t m e = go (leb m ((length ps - d - 1) / 2)) refl
+    where
+      go : (b : Bool) → leb m ((length ps - d - 1) / 2) ≡ b → Decoded F d ps (then_some b g)
+      go true k = found_near g t (omega (arith, leb-true m _ k))
+      go false k = none_nearer g t (omega (arith, leb-false m _ k))

@@ -9,3 +9,5 @@ pub mod Complete
 pub mod OnePoint
 pub mod Final
 pub mod Sole
+pub mod FromFn
+pub mod Tests

@@ -9,7 +9,7 @@ use Rattle.poly.specs.Poly.{eval, Distinct}
 use Rattle.field.proofs.Ring.{ring, neg_one, same}
 use Rattle.poly.proofs.Evals.{eval_add, eval_scale}
 use Rattle.poly.proofs.Roots.{all_zeros_under, eval_zeros}
-use Rattle.decode.proofs.Places.{length_scale}
+use Rattle.poly.proofs.Evals.{length_scale}
 
 abbrev pub mul : {K : Type 0} → Ops K → List K → List K → List K
 mul o [] ds = []

@@ -1,5 +1,5 @@
 -- One point more.
-use Rattle.std.proofs.Common.{◌≡◌, ℕ, zero, suc, ◌+◌, ◌<◌, true, false, cond, List, ◌∷◌, length, get_or, take, replicate, sym, refl, ap, ◌∙◌, ap₂, add-zero, arith, below_more}
+use Rattle.std.proofs.Common.{◌≡◌, ℕ, zero, suc, ◌+◌, ◌<◌, ◌≤◌, unwrap_or, true, false, cond, List, ◌∷◌, length, get_or, take, replicate, sym, refl, ap, ◌∙◌, ap₂, add-zero, arith, below_more}
 use Rattle.std.proofs.lemmas.List.{length-replicate}
 use Rattle.std.proofs.ByRecursion.{All-get_or}
 use Rattle.field.specs.Algebra.{Algebra, Lawful, inverse, ops}
@@ -8,7 +8,7 @@ use Rattle.decode.specs.Width.{top, width}
 use Rattle.decode.specs.declared.newton.Fit.{Fit}
 use Rattle.decode.specs.Coefficients.{mix, raise}
 use Rattle.decode.specs.Near.{Points, usable, picked}
-use Rattle.decode.specs.Fitted.{value_or, factor_of, fitted_of, Fitting}
+use Rattle.decode.specs.Fitted.{factor_of, fitted_of, Fitting, Through}
 use Rattle.decode.proofs.Places.{length_mix, length_raise}
 use Rattle.decode.proofs.Codes.{last_getD, eval_in, small_mix, small_raise, eval_mix, eval_raise, factor_zero, factor_pos, refined}
 use Rattle.field.proofs.Inverses.{times_zero, times_positive, one_times, inverse_at}
@@ -18,8 +18,8 @@ use Rattle.decode.proofs.Start.{zeros_at, zeros_in}
 use Rattle.decode.proofs.Complete.{eval_cut}
 
 module _ {F : Algebra} (lawful : Lawful F) where
-  inverse_is : (y : ℕ) → 0 < y → y < F.size → value_or (inverse F y) ≡ F.over y
-  inverse_is y h i = ap value_or (inverse_at lawful y h i)
+  inverse_is : (y : ℕ) → 0 < y → y < F.size → unwrap_or (inverse F y) 0 ≡ F.over y
+  inverse_is y h i = ap (λ o. unwrap_or o 0) (inverse_at lawful y h i)
 
   module _ (es : List ℕ) (ps : List (ℕ × ℕ)) (ok : Points F ps) (i : ℕ) (here : i < length ps) (f : Fit) (s : Fitting F es ps i f) where
     pub skipped : usable (ops F) es (get_or ps i (0, 0)) ≡ false → Fitting F es ps (i + 1) f
@@ -121,3 +121,15 @@ module _ {F : Algebra} (lawful : Lawful F) where
 
     pub none_from : (x y : List ℕ) → x ≡ 0 ∷ replicate m 0 → y ≡ 1 ∷ replicate m 0 → Fitting F es ps 0 (record { p = x; m = y; count = 0 })
     none_from x y e f = rw (e, f) none
+
+-- d + 1 usable points are enough
+pub reached : {F : Algebra} (es : List ℕ) (d : ℕ) (ps : List (ℕ × ℕ)) (i : ℕ) (f : Fit) → Fitting F es ps i f → i ≤ length ps → f.count ≡ suc d → Through F es d ps f.p
+reached es d ps i f s h e = record {
+  long = s.p_long;
+  small = s.p_in;
+  past = λ k l. s.p_past k (omega arith);
+  upto = i;
+  within = h;
+  at = λ j l u. (s.at j l u).0;
+  many = s.counts ∙ e;
+}

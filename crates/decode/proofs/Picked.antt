@@ -1,6 +1,7 @@
 -- The points that pass a test.
-use Rattle.std.proofs.Common.{◌≡◌, ℕ, zero, suc, ◌+◌, ◌<◌, Bool, true, false, cond, not, ◌≢◌, List, [], ◌∷◌, length, get_or, take, sym, refl, add-one, arith}
+use Rattle.std.proofs.Common.{◌≡◌, ℕ, zero, suc, ◌+◌, ◌<◌, Bool, true, false, cond, not, ◌≢◌, List, [], ◌∷◌, length, count_by, get_or, take, refl, add-one, arith}
 use Rattle.std.specs.List.{AllByRecursion}
+use Rattle.std.proofs.lemmas.List.Recursion.{is_count_by}
 use Rattle.field.specs.Algebra.{Ops}
 use Rattle.poly.specs.Poly.{Distinct}
 use Rattle.decode.specs.Near.{places, through, misses, picked}
@@ -72,10 +73,9 @@ apart_at (p ∷ ps) i zero d h k l e = absurd (omega arith)
 apart_at (p ∷ ps) zero (suc j) d h k l e = among p.0 d ps j h.0 (omega arith) e
 apart_at (p ∷ ps) (suc i) (suc j) d h k l e = apart_at ps i j d h.1 (omega arith) (omega arith) e
 
-others : (u : ℕ) (d : ℕ × ℕ) (qs : List (ℕ × ℕ)) → ((j : ℕ) → j < length qs → (get_or qs j d).0 ≡ u → ⊥) → AllByRecursion (λ s. s ≢ u) (places qs)
-others u d [] h = tt
-others u d (q ∷ qs) h = ((λ e. h 0 (omega arith) e), others u d qs (λ j l. h (suc j) (omega arith)))
-
-pub apart_from : (ps : List (ℕ × ℕ)) (d : ℕ × ℕ) → ((i j : ℕ) → i < j → j < length ps → (get_or ps i d).0 ≡ (get_or ps j d).0 → ⊥) → Distinct (places ps)
-apart_from [] d h = tt
-apart_from (p ∷ ps) d h = (others p.0 d ps (λ j l e. h 0 (suc j) (omega arith) (omega arith) (sym e)), apart_from ps d (λ i j k l. h (suc i) (suc j) (omega arith) (omega arith)))
+pub misses_counted : (o : Ops ℕ) (g : List ℕ) (ps : List (ℕ × ℕ)) → misses o g ps ≡ count_by (λ p. not (through o g p)) ps
+misses_counted o g ps = is_count_by (misses o g) (λ p. not (through o g p)) refl (λ p qs. go (through o g p) (misses o g qs)) ps
+  where
+    go : (b : Bool) (n : ℕ) → cond b n (suc n) ≡ cond (not b) (1 + n) n
+    go true n = refl
+    go false n = omega arith

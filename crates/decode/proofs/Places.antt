@@ -1,23 +1,14 @@
 -- The coefficients of a sum, a multiple and a product by X + a, by their places.
 use Rattle.std.proofs.Common.{◌≡◌, ℕ, zero, suc, ◌<◌, List, [], ◌∷◌, length, get_or, sym, refl, ap, ◌∙◌, arith}
 use Rattle.field.specs.Algebra.{Ops}
-use Rattle.field.specs.Vectors.{add, scale}
-use Rattle.decode.specs.Coefficients.{mix, raise}
+use Rattle.field.specs.Vectors.{scale}
+use Rattle.poly.proofs.Evals.{length_scale, length_add}
+use Rattle.decode.specs.Coefficients.{mix, raise, before}
 
 module _ {K : Type 0} (o : Ops K) where
-  pub length_scale : (p : K) (xs : List K) → length (scale o p xs) ≡ length xs
-  length_scale p [] = refl
-  length_scale p (x ∷ xs) = ap suc (length_scale p xs)
-
-  pub length_add : (xs ys : List K) → length xs ≡ length ys → length (add o xs ys) ≡ length xs
-  length_add [] [] l = refl
-  length_add [] (y ∷ ys) l = absurd (omega arith)
-  length_add (x ∷ xs) [] l = refl
-  length_add (x ∷ xs) (y ∷ ys) l = ap suc (length_add xs ys (omega arith))
-
   pub length_mix : (p : K) (xs : List K) (q : K) (ys : List K) → length xs ≡ length ys → length (mix o p xs q ys) ≡ length xs
   length_mix p xs q ys l =
-      length_add (scale o p xs) (scale o q ys) (length_scale p xs ∙ l ∙ sym (length_scale q ys)) ∙ length_scale p xs
+      length_add o (scale o p xs) (scale o q ys) (length_scale o p xs ∙ l ∙ sym (length_scale o q ys)) ∙ length_scale o p xs
 
   pub length_raise : (a p : K) (xs : List K) → length (raise o a p xs) ≡ length xs
   length_raise a p [] = refl
@@ -29,11 +20,6 @@ module _ {K : Type 0} (o : Ops K) where
   getD_mix p (x ∷ xs) q [] d k h i = absurd (omega arith)
   getD_mix p (x ∷ xs) q (y ∷ ys) d zero h i = refl
   getD_mix p (x ∷ xs) q (y ∷ ys) d (suc k) h i = getD_mix p xs q ys d k (omega arith) (omega arith)
-
-  -- the coefficient before the place k
-  abbrev pub before : K → List K → K → ℕ → K
-  before p xs d zero = p
-  before p xs d (suc k) = get_or xs k d
 
   pub getD_raise : (a p : K) (xs : List K) (d : K) (k : ℕ) → k < length xs
       → get_or (raise o a p xs) k d ≡ o.plus (o.times a (get_or xs k d)) (before p xs d k)

@@ -9,10 +9,10 @@ use Rattle.field.proofs.Inverses.{times_zero, times_positive}
 use Rattle.poly.specs.Poly.{eval, last}
 use Rattle.decode.specs.Width.{top}
 use Rattle.decode.specs.declared.key.Pair.{Pair}
-use Rattle.decode.specs.Coefficients.{mix, raise}
+use Rattle.decode.specs.Coefficients.{mix, raise, before}
 use Rattle.decode.specs.Near.{Points, Meets}
 use Rattle.decode.specs.Pairs.{discrepancy_of, raised_of, mixed_of, step_of, Shaped, Leads}
-use Rattle.decode.proofs.Places.{length_mix, getD_mix, length_raise, getD_raise, before}
+use Rattle.decode.proofs.Places.{length_mix, getD_mix, length_raise, getD_raise}
 use Rattle.decode.proofs.Codes.{pos_from, last_getD, eval_in, small_mix, small_raise, plus_zeros, zero_plus, eval_mix, eval_raise, mix_meets, raise_meets, no_discrepancy, discrepancies_meet, factor_zero}
 
 module _ {F : Algebra} (lawful : Lawful F) where
@@ -25,7 +25,7 @@ module _ {F : Algebra} (lawful : Lawful F) where
   nothing : (a : ℕ) → a < F.size → F.plus (F.times a 0) 0 ≡ 0
   nothing a h = ap (λ w. F.plus w 0) (times_zero lawful a) ∙ plus_zeros lawful
 
-  pub raise_zero : (a : ℕ) (xs : List ℕ) (k : ℕ) → a < F.size → get_or xs k 0 ≡ 0 → before (ops F) 0 xs 0 k ≡ 0 → get_or (raise (ops F) a 0 xs) k 0 ≡ 0
+  pub raise_zero : (a : ℕ) (xs : List ℕ) (k : ℕ) → a < F.size → get_or xs k 0 ≡ 0 → before 0 xs 0 k ≡ 0 → get_or (raise (ops F) a 0 xs) k 0 ≡ 0
   raise_zero a xs k h e f =
       ⊎_elim
       (λ (l : k < length xs). getD_raise (ops F) a 0 xs 0 k l ∙ ap₂ (λ x y. F.plus (F.times a x) y) e f ∙ nothing a h)
@@ -167,9 +167,6 @@ module _ {F : Algebra} (lawful : Lawful F) where
 
       b_light : b.weight < top
       b_light = omega (arith, s.weights, s.b_min)
-
-      u_here : ℕ
-      u_here = (get_or ps i (0, 0)).0
 
       -- a raised keeps its lead
       a_raised_top : (u : ℕ) → 0 < get_or (raised_of F a u).n (raised_of F a u).weight 0

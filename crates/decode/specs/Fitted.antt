@@ -1,5 +1,5 @@
 -- Coefficients through one point more at a time.
-use Rattle.std.specs.Prelude.{◌≡◌, ℕ, suc, ◌+◌, ◌<◌, ◌≤◌, true, List, length, take, Some, None, Option, slice_index, slice_index_or}
+use Rattle.std.specs.Prelude.{◌≡◌, ℕ, suc, ◌+◌, ◌<◌, ◌≤◌, true, List, length, take, Some, None, Option, unwrap_or, slice_index, slice_index_or}
 use Rattle.std.specs.List.{AllByRecursion}
 use Rattle.field.specs.Algebra.{Algebra, inverse, ops}
 use Rattle.poly.specs.Poly.{eval}
@@ -8,13 +8,9 @@ use Rattle.decode.specs.declared.newton.Fit.{Fit}
 use Rattle.decode.specs.Coefficients.{mix, raise}
 use Rattle.decode.specs.Near.{usable, picked}
 
-abbrev pub value_or : Option ℕ → ℕ
-value_or (Some v) = v
-value_or None = 0
-
 -- what the point misses, over what m comes to there
 abbrev pub factor_of : Algebra → Fit → ℕ × ℕ → ℕ
-factor_of F f p = F.times (F.plus p.1 (F.minus (eval (ops F) f.p p.0))) (value_or (inverse F (eval (ops F) f.m p.0)))
+factor_of F f p = F.times (F.plus p.1 (F.minus (eval (ops F) f.p p.0))) (unwrap_or (inverse F (eval (ops F) f.m p.0)) 0)
 
 abbrev pub fitted_of : Algebra → Fit → ℕ × ℕ → Fit
 fitted_of F f p = record { p = mix (ops F) 1 f.p (factor_of F f p) f.m; m = raise (ops F) (F.minus p.0) 0 f.m; count = f.count + 1 }

@@ -1,6 +1,8 @@
 -- The coefficients that few points miss. A point is a place and a value.
-use Rattle.std.specs.Prelude.{◌≡◌, ℕ, suc, ◌+◌, ◌-◌, ◌/◌, ◌<◌, ◌≤◌, Bool, true, false, cond, not, List, [], ◌∷◌, length, take, Some, None, Option, ◌==◌, ◌≢◌, slice_index, slice_index_or}
-use Rattle.std.specs.List.{AllByRecursion}
+use Rattle.std.specs.Prelude.{◌≡◌, ℕ, suc, ◌+◌, ◌-◌, ◌/◌, ◌<◌, ◌≤◌, Bool, cond, not, List, [], ◌∷◌, length, take, Some, None, Option, ◌==◌, slice_index}
+use Rattle.std.specs.List.{AllByRecursion, AllByRecursion-prop}
+use Rattle.std.specs.Coded.{×_prop, Unit-prop, le_prop}
+use mathlib.Core.HLevel.{⊥_prop, Π_prop}
 use Rattle.field.specs.Algebra.{Algebra, ops}
 use Rattle.field.specs.Algebra.{Ops}
 use Rattle.poly.specs.Poly.{eval, Distinct}
@@ -23,6 +25,13 @@ misses o g (p ∷ ps) = cond (through o g p) (misses o g ps) (suc (misses o g ps
 pub record Points (F : Algebra) (ps : List (ℕ × ℕ)) : Type 0 where
   pub small : AllByRecursion (λ p. (p.0 < F.size) × (p.1 < F.size)) ps
   pub apart : Distinct (places ps)
+
+pub Codes-prop : (q : ℕ) (ps : List (ℕ × ℕ)) → IsProp (AllByRecursion (λ p. (p.0 < q) × (p.1 < q)) ps)
+Codes-prop q ps = AllByRecursion-prop _ (λ p. ×_prop le_prop le_prop) ps
+
+pub Distinct-prop : (us : List ℕ) → IsProp (Distinct us)
+Distinct-prop [] = Unit-prop
+Distinct-prop (u ∷ us) = ×_prop (AllByRecursion-prop _ (λ s. Π_prop (λ e. ⊥_prop)) us) (Distinct-prop us)
 
 -- d + 1 coefficients that miss at most half of the points beyond d + 1
 pub record Near (F : Algebra) (d : ℕ) (ps : List (ℕ × ℕ)) (g : List ℕ) : Type 0 where
@@ -60,15 +69,6 @@ pub record Found (F : Algebra) (d : ℕ) (ps : List (ℕ × ℕ)) (g : List ℕ)
 abbrev pub Decoded : Algebra → ℕ → List (ℕ × ℕ) → Option (List ℕ) → Type 0
 Decoded F d ps (Some g) = Found F d ps g
 Decoded F d ps None = (g : List ℕ) → Near F d ps g → ⊥
-
--- whether the place of the point i is none of those before
-abbrev pub Fresh : List (ℕ × ℕ) → ℕ → Bool → Type 0
-Fresh ps i true = (j : ℕ) → j < i → (slice_index_or ps j (0, 0)).0 ≢ (slice_index_or ps i (0, 0)).0
-Fresh ps i false = (j : ℕ) × (j < i) × ((slice_index_or ps j (0, 0)).0 ≡ (slice_index_or ps i (0, 0)).0)
-
-abbrev pub Admits : Algebra → List (ℕ × ℕ) → Bool → Type 0
-Admits F ps true = Points F ps
-Admits F ps false = Points F ps → ⊥
 
 -- points that a search takes: codes at distinct places, more than d and at most as many as there is room for
 pub record Admissible (F : Algebra) (d : ℕ) (ps : List (ℕ × ℕ)) : Type 0 where

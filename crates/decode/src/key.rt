@@ -1,10 +1,9 @@
 // The key equation: a pair of polynomials n and e with n(u) = z e(u) at each point (u, z), of least weight.
 ghost use Rattle.std.specs.Prelude.{◌≡◌, ℕ, ◌+◌, ◌-◌, ◌<◌, ◌≤◌, length};
-ghost use Rattle.decode.specs.Width.{points_most};
-ghost use Rattle.decode.specs.Near.{Points};
 ghost use Rattle.decode.specs.Pairs.{discrepancy_of, raised_of, mixed_of, step_of, Solution};
 
 use crate::coefficients::{WIDTH, combine, constant, times_factor};
+use crate::sample::Sample;
 use field::Field;
 use poly::evaluate;
 
@@ -56,42 +55,33 @@ fn step<F: Field>(a: Pair, b: Pair, point: (u8, u8)) -> (Pair, Pair)
 {
     let da = discrepancy::<F>(&a, point);
     let db = discrepancy::<F>(&b, point);
-    if da == 0 {
-        if db == 0 {
-            (a, b)
-        } else {
-            let c = raised::<F>(&b, point.0);
-            (a, c)
-        }
-    } else if db == 0 {
-        let c = raised::<F>(&a, point.0);
-        (c, b)
-    } else if a.weight <= b.weight {
-        (raised::<F>(&a, point.0), mixed::<F>(da, &b, db, &a))
-    } else {
-        (mixed::<F>(db, &a, da, &b), raised::<F>(&b, point.0))
+    match (da, db) {
+        (0, 0) => (a, b),
+        (0, _) => (a, raised::<F>(&b, point.0)),
+        (_, 0) => (raised::<F>(&a, point.0), b),
+        _ if a.weight <= b.weight => (raised::<F>(&a, point.0), mixed::<F>(da, &b, db, &a)),
+        _ => (mixed::<F>(db, &a, da, &b), raised::<F>(&b, point.0)),
     }
 }
 
-// A pair that meets every point, of least weight.
-pub(crate) fn solve<F: Field>(d: usize, points: &[(u8, u8)]) -> Pair
-    requires { (Points F.algebra points.now) × ((length points.now ≤ points_most) × (d < length points.now)) }
-    ensures { Solution F.algebra d points.now result }
-{
-    let mut a = Pair {
-        n: constant(1),
-        e: constant(0),
-        weight: 0,
-    };
-    let mut b = Pair {
-        n: constant(0),
-        e: constant(1),
-        weight: d,
-    };
-    for i in 0..points.len() {
-        let next = step::<F>(a, b, points[i]);
-        a = next.0;
-        b = next.1;
+impl<'a, F: Field> Sample<'a, F> {
+    // A pair that meets every point, of least weight.
+    pub(crate) fn solve(&self) -> Pair
+        ensures { Solution F.algebra self.now.d self.now.points.now result }
+    {
+        let mut a = Pair {
+            n: constant(1),
+            e: constant(0),
+            weight: 0,
+        };
+        let mut b = Pair {
+            n: constant(0),
+            e: constant(1),
+            weight: self.d,
+        };
+        for point in self.points {
+            (a, b) = step::<F>(a, b, *point);
+        }
+        if a.weight <= b.weight { a } else { b }
     }
-    if a.weight <= b.weight { a } else { b }
 }

@@ -4,7 +4,7 @@
 mod coefficients;
 mod key;
 mod newton;
-mod points;
+mod sample;
 mod search;
 
 pub use coefficients::POINTS;

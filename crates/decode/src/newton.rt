@@ -1,30 +1,18 @@
 // Newton's interpolation.
 ghost use Rattle.std.specs.Prelude.{◌≡◌, ℕ, ◌+◌, ◌-◌, ◌<◌, ◌≤◌};
-ghost use Rattle.field.specs.Algebra.{inverse};
-ghost use Rattle.decode.specs.Width.{points_most};
-ghost use Rattle.decode.specs.Near.{Points};
-ghost use Rattle.decode.specs.Fitted.{value_or, fitted_of, Interpolated};
+ghost use Rattle.decode.specs.Fitted.{fitted_of, Interpolated};
 
 use crate::coefficients::{WIDTH, combine, constant, times_factor};
+use crate::sample::Sample;
 use field::Field;
 use poly::evaluate;
 
-// A polynomial p through `count` points, and m, the product of X - u over their places.
+// A polynomial p through `count` points, and m, the product of X - u over their places. `count` is no length: both arrays are full.
 #[derive(Drop)]
 struct Fit {
     p: [u8; WIDTH],
     m: [u8; WIDTH],
     count: usize,
-}
-
-// The inverse, or 0 where there is none.
-fn inverse_or_zero<F: Field>(a: u8) -> u8
-    ensures { result ≡ value_or (inverse F.algebra a) }
-{
-    match F::inv(a) {
-        Some(over) => over,
-        None => 0,
-    }
 }
 
 // Through one point more.
@@ -33,7 +21,8 @@ fn fitted<F: Field>(f: &Fit, point: (u8, u8)) -> Fit
     ensures { result ≡ fitted_of F.algebra f.now point }
 {
     let missed = F::add(point.1, F::neg(evaluate::<F>(&f.p, point.0)));
-    let factor = F::mul(missed, inverse_or_zero::<F>(evaluate::<F>(&f.m, point.0)));
+    let over = F::inv(evaluate::<F>(&f.m, point.0)).unwrap_or(0);
+    let factor = F::mul(missed, over);
     Fit {
         p: combine::<F>(1, &f.p, factor, &f.m),
         m: times_factor::<F>(&f.m, point.0),
@@ -41,26 +30,25 @@ fn fitted<F: Field>(f: &Fit, point: (u8, u8)) -> Fit
     }
 }
 
-// The polynomial of degree at most d through the first d + 1 points where e does not vanish.
-pub(crate) fn interpolate<F: Field>(
-    d: usize,
-    e: &[u8; WIDTH],
-    points: &[(u8, u8)],
-) -> Option<[u8; WIDTH]>
-    requires { (Points F.algebra points.now) × (d < points_most) }
-    ensures { Interpolated F.algebra e.now d points.now result }
-{
-    let mut fit = Fit {
-        p: constant(0),
-        m: constant(1),
-        count: 0,
-    };
-    let mut i = 0;
-    while i < points.len() && fit.count <= d {
-        if evaluate::<F>(e, points[i].0) != 0 {
-            fit = fitted::<F>(&fit, points[i]);
+impl<'a, F: Field> Sample<'a, F> {
+    // The polynomial of degree at most d through the first d + 1 points where e does not vanish.
+    pub(crate) fn interpolate(&self, e: &[u8; WIDTH]) -> Option<[u8; WIDTH]>
+        ensures { Interpolated F.algebra e.now self.now.d self.now.points.now result }
+    {
+        let mut fit = Fit {
+            p: constant(0),
+            m: constant(1),
+            count: 0,
+        };
+        // A loop: it builds up the fit and ends with the point that completes it.
+        for point in self.points {
+            if evaluate::<F>(e, point.0) != 0 {
+                fit = fitted::<F>(&fit, *point);
+                if fit.count > self.d {
+                    return Some(fit.p);
+                }
+            }
         }
-        i += 1;
+        None
     }
-    if fit.count > d { Some(fit.p) } else { None }
 }

@@ -1,7 +1,7 @@
 -- The worked examples, by computation; that an answer is the only one, by what is known of lines.
-use Rattle.std.proofs.Common.{◌≡◌, ℕ, ◌-◌, ◌/◌, ◌<◌, Bool, true, false, not, T, leb, List, [], ◌∷◌, None, Ok, Err, Option, Result, sym, refl, ap, ◌∙◌, subst, arith, lit<, lit≤}
+use Rattle.std.proofs.Common.{◌≡◌, ℕ, ◌-◌, ◌/◌, Bool, true, false, not, T, leb, ltb, List, map, [], ◌∷◌, None, Ok, Err, Option, Result, sym, refl, ap, ◌∙◌, subst, arith, lit<, lit≤}
 use Rattle.std.proofs.lemmas.Bool.{le-leb}
-use Rattle.field.specs.Algebra.{Lawful, Codes}
+use Rattle.field.specs.Algebra.{Lawful}
 use Rattle.field.proofs.Every.{every, at_triple}
 use Rattle.residue.specs.Remainders.{residues_lawful}
 use Rattle.readings.specs.declared.kinds.Reading.{Reading}
@@ -9,14 +9,15 @@ use Rattle.readings.specs.declared.kinds.AnsweredLine.{AnsweredLine}
 use Rattle.readings.specs.declared.kinds.AnswerFault.{AnswerFault}
 use Rattle.readings.specs.declared.kinds.AnswerFault.TheVariants.{TooFewSymbols, NoPolynomial}
 use Rattle.readings.specs.Counts.{count}
-use Rattle.readings.specs.Readings.{Explains, symbols_read, wrongs}
+use Rattle.readings.specs.Readings.{Answers, Explains, answered, symbols_read, wrongs}
 use Rattle.line.specs.Lines.{line_readings}
 use Rattle.plate.specs.declared.faults.PlateFault.{PlateFault}
 use Rattle.plate.specs.Requests.{Cells, refusal, Sound, line_answer, LineAnswers, Does, Unless}
+use Rattle.plate.specs.declared.calls.Reply.TheVariants.{Corrected}
 use Rattle.plate.specs.Requests.Request.{Correct}
 use Rattle.runs.proofs.Moments.{unless_none}
 use Rattle.runs.proofs.OnLines.{one_reply}
-use Rattle.examples.specs.Examples.{five, setting, marks, told, Gives, burned, wiped_two, wiped_three, spoilt_and_wiped, spoilt_two, Examples}
+use Rattle.examples.specs.Examples.{five, setting, marks, Gives, undivided, burned, wiped_two, wiped_three, spoilt_and_wiped, spoilt_two, Examples}
 
 lawful : Lawful five
 lawful = residues_lawful 5 (lit< tt) tt
@@ -34,13 +35,22 @@ gives x w v sound r a = record {
     unless_none_back : {o : Option PlateFault} {D : Type 0} → o ≡ None → D → Unless o x (line_answer r) x D
     unless_none_back {o} {D} e t = subst (λ (p : Option PlateFault). Unless p x (line_answer r) x D) (sym e) t
 
--- three codes
-codes : (a b c : ℕ) → a < 5 → b < 5 → c < 5 → Codes five (a ∷ b ∷ c ∷ [])
-codes a b c i j k = (i, (j, (k, tt)))
-
 -- whether few enough readings disagree with the polynomial
 abbrev few : List Reading → ℕ → ℕ → ℕ → Bool
 few rs a b c = leb (count (wrongs five 2 (a ∷ b ∷ c ∷ []) rs)) ((symbols_read rs - 2 - 1) / 2)
+
+-- three codes, few enough readings that disagree with them, and enough symbols
+abbrev Near : List Reading → ℕ → ℕ → ℕ → Type 0
+Near rs a b c = T (ltb a 5) × T (ltb b 5) × T (ltb c 5) × T (ltb 2 (symbols_read rs)) × T (few rs a b c)
+
+-- readings near to a polynomial have its answer
+explained : (rs : List Reading) (a b c : ℕ) → Near rs a b c → Answers five 2 rs (Ok (answered five 2 rs (a ∷ b ∷ c ∷ [])))
+explained rs a b c t = (lit< t.3, (a ∷ b ∷ c ∷ [], record { long = refl; codes = (lit< t.0, (lit< t.1, (lit< t.2, tt))); few = lit≤ t.4 }, refl))
+
+-- so has a line of such readings
+concluded : (x : Cells) (w v : ℕ) → Sound setting (Correct w v marks) → (a b c : ℕ) → Near (line_readings five 2 x w v marks) a b c
+    → Gives x (Correct w v marks) (Ok (Corrected (answered five 2 (line_readings five 2 x w v marks) (a ∷ b ∷ c ∷ []))))
+concluded x w v sound a b c t = gives x w v sound (Ok (answered five 2 (line_readings five 2 x w v marks) (a ∷ b ∷ c ∷ []))) (explained (line_readings five 2 x w v marks) a b c t)
 
 none_explains : (rs : List Reading) → T (every (λ a. every (λ b. every (λ c. not (few rs a b c)) 5) 5) 5)
     → (h : List ℕ) → Explains five 2 rs h → ⊥
@@ -66,26 +76,18 @@ examples = record {
   place_15 = refl;
   places_7 = refl;
   symbols_7 = refl;
-  answer_7 =
-      gives (burned form) 7 28 refl (Ok (told 3 0 0))
-      (lit< tt, (3 ∷ 4 ∷ 3 ∷ [], record { long = refl; codes = codes 3 4 3 (lit< tt) (lit< tt) (lit< tt); few = lit≤ tt }, refl));
+  answer_7 = concluded (burned form) 7 28 refl 3 4 3 (tt, tt, tt, tt, tt);
   places_27 = refl;
   divisors_27 = refl;
   symbols_27 = refl;
-  answer_27 =
-      gives (burned form) 27 4 refl (Ok (told 0 0 0))
-      (lit< tt, (0 ∷ 0 ∷ 2 ∷ [], record { long = refl; codes = codes 0 0 2 (lit< tt) (lit< tt) (lit< tt); few = lit≤ tt }, refl));
-  undivided_27 = (lit< tt, (2 ∷ 0 ∷ 0 ∷ [], record { long = refl; codes = codes 2 0 0 (lit< tt) (lit< tt) (lit< tt); few = lit≤ tt }, refl));
-  answer_wiped_two =
-      gives (wiped_two form) 7 28 refl (Ok (told 3 0 3))
-      (lit< tt, (3 ∷ 4 ∷ 3 ∷ [], record { long = refl; codes = codes 3 4 3 (lit< tt) (lit< tt) (lit< tt); few = lit≤ tt }, refl));
+  answer_27 = concluded (burned form) 27 4 refl 0 0 2 (tt, tt, tt, tt, tt);
+  undivided_27 = explained (map undivided (line_readings five 2 (burned form) 27 4 marks)) 2 0 0 (tt, tt, tt, tt, tt);
+  answer_wiped_two = concluded (wiped_two form) 7 28 refl 3 4 3 (tt, tt, tt, tt, tt);
   answer_wiped_three = gives (wiped_three form) 7 28 refl (Err TooFewSymbols) (lit≤ tt);
   answer_spoilt_and_wiped =
       gives (spoilt_and_wiped form) 7 28 refl (Err NoPolynomial) (lit< tt, none_explains (line_readings five 2 (spoilt_and_wiped form) 7 28 marks) tt);
   unfair = λ f. absurd (omega (arith, f));
-  answer_spoilt_two =
-      gives (spoilt_two form) 7 28 refl (Ok (told 0 16 0))
-      (lit< tt, (0 ∷ 2 ∷ 4 ∷ [], record { long = refl; codes = codes 0 2 4 (lit< tt) (lit< tt) (lit< tt); few = lit≤ tt }, refl));
+  answer_spoilt_two = concluded (spoilt_two form) 7 28 refl 0 2 4 (tt, tt, tt, tt, tt);
   product_4 = refl;
   product_16 = refl;
   inverse_7 = refl;

@@ -1,6 +1,7 @@
 -- What the laws give of products and inverses of codes.
-use Rattle.std.proofs.Common.{◌≡◌, ℕ, zero, suc, ◌<◌, ◌≤◌, ◌≢◌, Some, None, sym, refl, ap, ◌∙◌, ⊎_elim, arith}
+use Rattle.std.proofs.Common.{◌≡◌, ℕ, zero, suc, ◌<◌, ◌≤◌, ◌≢◌, Option, Some, None, sym, refl, ap, ◌∙◌, ⊎_elim, arith}
 use Rattle.std.proofs.lemmas.Bool.{cases_lt, lt-ltb, le-ltb}
+use Rattle.std.specs.Option.{MatchOption}
 use Rattle.field.specs.Algebra.{Algebra, Lawful, inverse, ops, power}
 use Rattle.field.proofs.Ring.{mul_zero, no_zero_divisor}
 use Rattle.field.proofs.Elements.{Elem, field_of, same_code, power_in}
@@ -78,3 +79,8 @@ module _ {F : Algebra} (L : Lawful F) where
   pub power_positive : (x e : ℕ) → 0 < x → x < F.size → 0 < power (ops F) x e
   power_positive x zero p h = omega arith
   power_positive x (suc e) p h = times_positive (power (ops F) x e) x (power_positive x e p h) (power_in L x e) p h
+
+  -- the first of the codes from s on, at most 1, that a times it is 1
+  pub inverse_found : (a s q : ℕ) → s ≤ 1 → q ≡ F.size → (r : Option ℕ) → MatchOption r ((k : ℕ) → s ≤ k → k < q → F.times a k ≡ 1 → ⊥) (λ i. (s ≤ i) × (i < q) × (F.times a i ≡ 1) × ((k : ℕ) → s ≤ k → k < i → F.times a k ≡ 1 → ⊥)) → r ≡ inverse F a
+  inverse_found a s q l e None h = inverse_none a (λ b p k. h b (omega arith) (omega (arith, e)))
+  inverse_found a s q l e (Some b) h = inverse_is a b (omega (arith, e, h.1)) h.2

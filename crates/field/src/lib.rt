@@ -1,18 +1,17 @@
 // A finite field on the codes 0 to Q - 1, its laws, and powers.
 #![tactic(auto)]
 
-ghost use Rattle.std.specs.Prelude.{◌≡◌, ℕ, ◌+◌, ◌-◌, ◌<◌, ◌≤◌};
+ghost use Rattle.std.specs.Prelude.{◌≡◌, ℕ, ◌+◌, ◌-◌, ◌<◌, ◌≤◌, nat_lt};
 ghost use Rattle.field.specs.Algebra.{Algebra, Lawful, inverse, ops, power as power_of};
 
 // Whoever implements it proves the laws; whoever is generic over it may use them.
 pub trait Field {
-    const Q: u8;
-
     ghost algebra: { Algebra };
 
-    // How many codes there are: the constant Q, where a contract can name it.
-    fn size() -> u8
-        ensures { result ≡ algebra.size };
+    ghost Q: { ℕ };
+
+    // How many codes there are.
+    const Q: u8;
 
     fn add(a: u8, b: u8) -> u8
         ensures { result ≡ algebra.plus a b };
@@ -27,15 +26,12 @@ pub trait Field {
     fn inv(a: u8) -> Option<u8>
         ensures { result ≡ inverse algebra a }
     {
-        for b in 1..Self::size() {
-            if Self::mul(a, b) == 1 {
-                return Some(b);
-            }
-        }
-        None
+        (1..Self::Q).find(|b| Self::mul(a, *b) == 1)
     }
 
     ghost lawful: { Lawful algebra };
+
+    ghost sized: { Q ≡ algebra.size };
 }
 
 // x times itself, n times: 1 where n is 0.

@@ -4,3 +4,4 @@ pub mod Lower
 pub mod OnForms
 pub mod Ordered
 pub mod Sound
+pub mod Gaps

@@ -4,12 +4,13 @@ use Rattle.std.specs.List.{AllByRecursion}
 use Rattle.std.proofs.ByRecursion.{All-append, All-map, All-weaker, All-take}
 use Rattle.std.proofs.lemmas.List.{length-take}
 use Rattle.field.specs.Algebra.{Algebra, Lawful, Ops, Codes, ops, power}
-use Rattle.field.specs.Vectors.{scale, add, along}
+use Rattle.field.specs.Vectors.{scale, along}
 use Rattle.field.proofs.Abstract.{IsField}
 use Rattle.field.proofs.Ring.{ring, mul_zero}
 use Rattle.field.proofs.Elements.{Elem, elems, field_of, lift, lower_lift, length_lift, power_lower}
 use Rattle.field.proofs.Vectors.{scale_lower, along_lower, take_scale, take_along}
 use Rattle.poly.proofs.Products.{product_at, slopes, Represented}
+use Rattle.poly.proofs.Evals.{length_scale, length_add}
 use Rattle.poly.proofs.Lines.{line, plus_represented, times_represented, renamed, nothing}
 use Rattle.poly.proofs.Transfer.{lowered}
 use Rattle.form.specs.Forms.{spread, vectors, monomial, total, value, value_at, degree, Multiples, OnLines, Leading}
@@ -88,13 +89,9 @@ module _ {K : Type 0} {o : Ops K} (L : IsField o) where
       let m = monomial_scale k p v g.0.0 ∙ ap (λ n. power o k n ⊗ monomial o p v) g.0.1 in
       ap₂ (λ a b. c ⊗ a ⊕ b) m (total_scale k d p cs vs g.1) ∙ ring_term c (power o k d) (monomial o p v) (total o p cs vs)
 
-  length_scaled : (k : K) (p : List K) → length (scale o k p) ≡ length p
-  length_scaled k [] = refl
-  length_scaled k (x ∷ p) = ap suc (length_scaled k p)
-
   pub value_scale : (k : K) (p : List K) (d : ℕ) (cs : List K) → value o (scale o k p) d cs ≡ power o k d ⊗ value o p d cs
   value_scale k p d cs =
-      ap (λ n. total o (scale o k p) cs (vectors n d)) (length_scaled k p) ∙ total_scale k d p cs (vectors (length p) d) (good_vectors (length p) d)
+      ap (λ n. total o (scale o k p) cs (vectors n d)) (length_scale o k p) ∙ total_scale k d p cs (vectors (length p) d) (good_vectors (length p) d)
 
   -- lines
   length_rep : (e : ℕ) (f : K × K) (fs : List (K × K)) → length (rep e f fs) ≡ e + length fs
@@ -147,15 +144,9 @@ module _ {K : Type 0} {o : Ops K} (L : IsField o) where
       (renamed L (length_factors w v u h g.0.0 ∙ g.0.1) (λ t. sym (value_factors w v u h g.0.0 t)) (slopes_factors w v u h g.0.0) (line L (factors w v u))))
       (total_line d w v cs us h g.1)
 
-  length_add : (w v : List K) → length w ≡ length v → length (add o w v) ≡ length w
-  length_add [] [] l = refl
-  length_add [] (y ∷ v) l = absurd (omega arith)
-  length_add (x ∷ w) [] l = refl
-  length_add (x ∷ w) (y ∷ v) l = ap suc (length_add w v (omega arith))
-
   pub value_line : (d : ℕ) (w v cs : List K) → length w ≡ length v → Represented o d (λ t. value o (along o w v t) d cs) (value o v d cs)
   value_line d w v cs h =
-      renamed L refl (λ t. ap (λ n. total o (along o w v t) cs (vectors n d)) (length_add w (scale o t v) (h ∙ sym (length_scaled t v)) ∙ h)) refl
+      renamed L refl (λ t. ap (λ n. total o (along o w v t) cs (vectors n d)) (length_add o w (scale o t v) (h ∙ sym (length_scale o t v)) ∙ h)) refl
       (total_line d w v cs (vectors (length v) d) h (good_vectors (length v) d))
 
 module _ {F : Algebra} (L : Lawful F) where

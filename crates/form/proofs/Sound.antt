@@ -1,27 +1,22 @@
 -- What sound coefficients are.
-use Rattle.std.proofs.Common.{◌≡◌, ℕ, suc, ◌+◌, ◌<◌, ◌≤◌, Bool, true, false, cond, eqb, leb, List, [], ◌∷◌, length, get_or, drop, Some, None, Ok, Option, sym, refl, ap, ◌∙◌, subst, ⊎_elim, arith}
-use Rattle.std.specs.List.{AllByRecursion}
-use Rattle.std.proofs.lemmas.List.{at_drop_more, at_drop_all}
-use Rattle.std.proofs.lemmas.Bool.{cases_lt, le-leb, lt-leb, cond-true, cond-false, eqb-true}
+use Rattle.std.proofs.Common.{◌≡◌, ℕ, suc, ◌+◌, ◌<◌, ◌≤◌, Bool, true, false, cond, eqb, leb, List, [], ◌∷◌, length, Some, None, Ok, Option, sym, refl, ap, ◌∙◌, subst, ⊎_elim, arith}
+use Rattle.std.specs.List.{AllByRecursion, position_from}
+use Rattle.std.proofs.lemmas.Bool.{cases_lt, le-leb, lt-leb, cond-true, cond-false, eqb-true, eq-eqb}
 use Rattle.field.specs.Algebra.{Algebra, Codes}
 use Rattle.form.specs.declared.faults.FormFault.{FormFault}
 use Rattle.form.specs.declared.faults.FormFault.TheVariants.{OtherField, WrongCount}
 use Rattle.form.specs.declared.sheet.Form.{Form}
 use Rattle.form.specs.Forms.{coefficient_count}
-use Rattle.form.specs.Soundness.{first_excess}
-use Rattle.form.specs.Sheets.{excess, coefficient_fault, form_fault, unless, check_answer}
+use Rattle.form.specs.Soundness.{first_excess, excess, coefficient_fault, unless}
+use Rattle.form.specs.Sheets.{form_fault, check_answer}
 
-module _ (q i : ℕ) (cs : List ℕ) where
-  pub excess_here : i < length cs → q ≤ get_or cs i 0 → first_excess q i (drop i cs) ≡ Some i
-  excess_here h e = at_drop_more (first_excess q i) cs i 0 h ∙ cond-true (leb q (get_or cs i 0)) _ _ (le-leb q (get_or cs i 0) e)
+excess_from : (q i : ℕ) (cs : List ℕ) → position_from (leb q) i cs ≡ first_excess q i cs
+excess_from q i [] = refl
+excess_from q i (c ∷ cs) = let e : i + 1 ≡ suc i = omega arith in rw (e, excess_from q (suc i) cs) refl
 
-  pub excess_later : i < length cs → get_or cs i 0 < q → first_excess q i (drop i cs) ≡ first_excess q (i + 1) (drop (i + 1) cs)
-  excess_later h e =
-      let s : suc i ≡ i + 1 = omega arith in
-      at_drop_more (first_excess q i) cs i 0 h ∙ cond-false (leb q (get_or cs i 0)) _ _ (lt-leb q (get_or cs i 0) e) ∙ ap (λ k. first_excess q k (drop (i + 1) cs)) s
-
-  pub excess_none : length cs ≤ i → first_excess q i (drop i cs) ≡ None
-  excess_none h = at_drop_all (first_excess q i) cs i h
+-- coefficients of the right number, by the first that is q or more
+pub judged : (q m d : ℕ) (cs : List ℕ) (o : Option ℕ) → length cs ≡ coefficient_count m d → o ≡ position_from (leb q) 0 cs → coefficient_fault q m d cs ≡ excess o
+judged q m d cs o l e = cond-true (eqb (length cs) (coefficient_count m d)) _ _ (eq-eqb _ _ l) ∙ ap excess (sym (e ∙ excess_from q 0 cs))
 
 codes_without_excess : (q i : ℕ) (cs : List ℕ) → first_excess q i cs ≡ None → AllByRecursion (λ c. c < q) cs
 codes_without_excess q i [] e = tt

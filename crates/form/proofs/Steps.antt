@@ -1,7 +1,7 @@
 -- The steps of `over`.
 use Rattle.std.proofs.Common.{◌≡◌, ℕ, zero, suc, ◌+◌, ◌-◌, ◌<◌, ◌≤◌, List, [], ◌∷◌, length, get_or, take, drop, set, sym, refl, ap, ◌∙◌, ⊎_elim, arith}
 use Rattle.std.proofs.lemmas.Bool.{cases_eq}
-use Rattle.std.proofs.lemmas.List.{get_or-set_same, get_or-set_other}
+use Rattle.std.proofs.lemmas.List.{get_or-set_same, get_or-set_other, take_rest, length-drop}
 use Rattle.poly.specs.Poly.{last}
 use Rattle.field.specs.Algebra.{Algebra, ops, power}
 use Rattle.form.specs.Evaluation.{terms, nested, Powers}
@@ -65,3 +65,17 @@ terms_more n j (suc d) h l =
     (λ (e : j ≡ suc d). rw e (omega arith))
     (λ (u : j ≡ suc d → ⊥). omega (arith, terms_more n j d h (omega arith), terms_step n d h))
     (cases_eq j (suc d))
+
+-- the coordinates after the first
+pub record Later (xs ys : List ℕ) : Type 0 where
+  pub is : ys ≡ drop 1 xs
+  pub long : length ys ≡ length xs - 1
+  pub same_last : last 0 ys ≡ last 0 xs
+
+pub later : (xs : List ℕ) → 2 ≤ length xs → Later xs (take (length xs - 1) (drop 1 xs))
+later xs two =
+    let r : take (length xs - 1) (drop 1 xs) ≡ drop 1 xs = take_rest xs 1 in
+    record { is = r; long = ap length r ∙ length-drop 1 xs; same_last = ap (last 0) r ∙ last_rest xs two }
+
+pub terms_of_one : (xs : List ℕ) (d : ℕ) → length xs ≡ 1 → terms (length xs) d ≡ 1
+terms_of_one xs d e = ap (λ n. terms n d) e ∙ terms_one d

@@ -1,5 +1,5 @@
 -- The answers of the calls on forms.
-use Rattle.std.specs.Prelude.{ℕ, cond, List, length, Some, None, Ok, Err, Option, Result, ◌==◌}
+use Rattle.std.specs.Prelude.{ℕ, cond, List, Some, Ok, Err, Option, Result, ◌==◌}
 use Rattle.fault.specs.declared.code.FaultCode.{FaultCode}
 use Rattle.fault.specs.declared.code.Part.{Part}
 use Rattle.field.specs.Algebra.{Algebra}
@@ -8,8 +8,8 @@ use Rattle.space.specs.Points.{point_fault_code, at_point, at_place}
 use Rattle.form.specs.declared.faults.FormFault.{FormFault}
 use Rattle.form.specs.declared.faults.FormFault.TheVariants.{OtherField, WrongCount, NotACode, AtPoint}
 use Rattle.form.specs.declared.sheet.Form.{Form}
-use Rattle.form.specs.Forms.{coefficient_count, value_at, symbol_at}
-use Rattle.form.specs.Soundness.{first_excess}
+use Rattle.form.specs.Forms.{value_at, symbol_at}
+pub use Rattle.form.specs.Soundness.{excess, coefficient_fault, unless}
 
 abbrev pub form_fault_code : FormFault → FaultCode
 form_fault_code OtherField = record { part = Part.Plate; number = 20; position = 0 }
@@ -17,21 +17,9 @@ form_fault_code WrongCount = record { part = Part.Plate; number = 21; position =
 form_fault_code (NotACode i) = record { part = Part.Plate; number = 22; position = i }
 form_fault_code (AtPoint f) = point_fault_code f
 
-abbrev pub excess : Option ℕ → Option FormFault
-excess (Some i) = Some (NotACode i)
-excess None = None
-
--- the first refusal that coefficients meet as a form of the shape q, m, d
-abbrev pub coefficient_fault : ℕ → ℕ → ℕ → List ℕ → Option FormFault
-coefficient_fault q m d cs = cond (length cs == coefficient_count m d) (excess (first_excess q 0 cs)) (Some WrongCount)
-
--- and over the field
+-- the first refusal that coefficients meet as a form of the shape q, m, d over the field
 abbrev pub form_fault : Algebra → ℕ → ℕ → ℕ → List ℕ → Option FormFault
 form_fault F q m d cs = cond (q == F.size) (coefficient_fault q m d cs) (Some OtherField)
-
-abbrev pub unless : {X : Type 0} → Option FormFault → Result X FormFault → Result X FormFault
-unless (Some f) r = Err f
-unless None r = r
 
 abbrev pub of_point : {X : Type 0} → Result X PointFault → Result X FormFault
 of_point (Ok x) = Ok x

@@ -1,35 +1,33 @@
-ghost use Rattle.std.specs.Prelude.{◌≡◌, ℕ, ◌+◌, ◌-◌, ◌*◌, ◌^◌, ◌<◌, ◌≤◌, not, is_some, IfOk, Ok};
+ghost use Rattle.std.specs.Prelude.{◌≡◌, IfOk, IfErr, Ok, Err, nat_le};
+ghost use Rattle.std.specs.List.{position_from};
 ghost use Rattle.form.specs.declared.faults.FormFault.TheVariants.{AtPoint};
 ghost use Rattle.space.specs.Places.{Point};
 ghost use Rattle.form.specs.Forms.{Leading, VectorsListed, coefficient_count, gap_of, value_at};
-ghost use Rattle.form.specs.Soundness.{first_excess, sound as is_sound};
-ghost use Rattle.form.specs.Sheets.{form_fault_code, coefficient_fault, check_answer, value_answer, symbol_answer};
+ghost use Rattle.form.specs.Soundness.{coefficient_fault, unless};
+ghost use Rattle.form.specs.Sheets.{form_fault_code, check_answer, value_answer, symbol_answer};
 
-use crate::evaluate::{binomial, value_of};
+use crate::checked::CheckedForm;
 use crate::faults::FormFault;
 use crate::sheet::Form;
 use fault::{Fault, FaultCode, Part};
 use field::Field;
-use space::{PointFault, Shape, check_point, point_of};
+use space::{PointFault, Shape};
+use std::marker::PhantomData;
 
 impl Fault for FormFault {
     ghost coded = { form_fault_code };
 
     fn code(&self) -> FaultCode {
-        let (number, position) = match self {
-            FormFault::OtherField => (20, 0),
-            FormFault::WrongCount => (21, 0),
-            FormFault::NotACode { position } => (22, *position),
-            FormFault::AtPoint(fault) => return fault.code(),
-        };
-        FaultCode {
-            part: Part::Plate,
-            number,
-            position,
+        match *self {
+            FormFault::OtherField => Part::Plate.refusal(20, 0),
+            FormFault::WrongCount => Part::Plate.refusal(21, 0),
+            FormFault::NotACode { position } => Part::Plate.refusal(22, position),
+            FormFault::AtPoint(fault) => fault.code(),
         }
     }
 }
 
+// By hand: what a derive writes does not tell the proofs which fault comes of a `?`.
 impl From<PointFault> for FormFault {
     ghost from_gives = { λ f r. r ≡ AtPoint f };
 
@@ -38,67 +36,56 @@ impl From<PointFault> for FormFault {
     }
 }
 
-// How many coefficients a form of the shape has.
+// How many coefficients a form of the shape has: C(m + d, d), m being 1 to 3.
 pub fn coefficient_count(shape: Shape) -> usize
     ensures count { result ≡ coefficient_count shape.m shape.d }
     ensures listed { VectorsListed shape.m shape.d }
 {
-    binomial(shape.m, shape.d)
+    let d = shape.d;
+    match shape.m {
+        1 => d + 1,
+        2 => (d + 1) * (d + 2) / 2,
+        _ => (d + 1) * (d + 2) * (d + 3) / 6,
+    }
 }
 
 // The gap of a shape, (q - d) q^(m - 1).
+#[tactic(auto, using(crate::proofs::Gaps::gap_within))]
 pub fn gap(shape: Shape) -> usize
     ensures { result ≡ gap_of shape.q shape.m shape.d }
 {
     let q = shape.q as usize;
-    (q - shape.d) * power(q, shape.m - 1)
-}
-
-fn power(q: usize, k: usize) -> usize
-    requires { (q ≤ 16) × (k ≤ 2) }
-    ensures { (result ≡ q ^ k) × (result ≤ 256) }
-{
-    match k {
-        0 => 1,
-        1 => q,
-        _ => q * q,
-    }
+    (q - shape.d) * q.pow(shape.m as u32 - 1)
 }
 
 // The first coefficient that is q or more.
 fn first_excess(q: u8, coefficients: &[u8]) -> Option<usize>
-    ensures { result ≡ first_excess q 0 coefficients.now }
+    ensures { result ≡ position_from (λ c. nat_le q c) 0 coefficients.now }
 {
-    for i in 0..coefficients.len() {
-        if coefficients[i] >= q {
-            return Some(i);
-        }
-    }
-    None
+    coefficients.iter().position(|c| *c >= q)
 }
 
-fn coefficient_fault(shape: Shape, coefficients: &[u8]) -> Option<FormFault>
-    ensures exact { result ≡ coefficient_fault shape.q shape.m shape.d coefficients.now }
-    ensures sound { is_some result ≡ not (is_sound shape.q shape.m shape.d coefficients.now) }
+// What is wrong with the coefficients as a form of the shape.
+fn judge(shape: Shape, coefficients: &[u8]) -> Result<(), FormFault>
+    ensures { result ≡ unless (coefficient_fault shape.q shape.m shape.d coefficients.now) (Ok tt) }
 {
     if coefficients.len() != coefficient_count(shape) {
-        return Some(FormFault::WrongCount);
+        return Err(FormFault::WrongCount);
     }
-    match first_excess(shape.q, coefficients) {
-        Some(position) => Some(FormFault::NotACode { position }),
-        None => None,
+    if let Some(position) = first_excess(shape.q, coefficients) {
+        return Err(FormFault::NotACode { position });
     }
+    Ok(())
 }
 
 impl<'a> Form<'a> {
     pub fn new(shape: Shape, coefficients: &'a [u8]) -> Form<'a>
         ensures { (result.shape ≡ shape) × (result.coefficients.now ≡ coefficients.now) }
     {
-        let sound = coefficient_fault(shape, coefficients).is_none();
         Form {
             shape,
             coefficients,
-            sound,
+            verdict: judge(shape, coefficients),
         }
     }
 
@@ -106,26 +93,22 @@ impl<'a> Form<'a> {
     pub fn check<F: Field>(&self) -> Result<(), FormFault>
         ensures { result ≡ check_answer F.algebra self.now }
     {
-        if self.shape.q != F::size() {
+        if self.shape.q != F::Q {
             return Err(FormFault::OtherField);
         }
-        if self.sound {
-            return Ok(());
-        }
-        match coefficient_fault(self.shape, self.coefficients) {
-            Some(fault) => Err(fault),
-            None => Ok(()),
-        }
+        self.verdict
     }
 
-    // The value at a point of the shape over its field.
-    fn at<F: Field>(&self, p: [u8; 4]) -> u8
-        requires sound { check_answer F.algebra self.now ≡ Ok tt }
-        requires point { Point self.now.shape.q self.now.shape.m p }
-        ensures exact { result ≡ value_at F.algebra self.now.shape.m self.now.shape.d self.now.coefficients.now p }
-        ensures leading { Leading F.algebra self.now.shape.m self.now.shape.d self.now.coefficients.now p result }
+    // The form as one over the field that was checked.
+    pub fn check_for<F: Field>(&self) -> Result<CheckedForm<'a, F>, FormFault>
+        ensures form { IfOk result (λ c. (c.form ≡ self.now) × (check_answer F.algebra self.now ≡ Ok tt)) }
+        ensures fault { IfErr result (λ f. check_answer F.algebra self.now ≡ Err f) }
     {
-        value_of::<F>(p, self.shape.m, self.shape.d, self.coefficients)
+        self.check::<F>()?;
+        Ok(CheckedForm {
+            form: *self,
+            field: PhantomData,
+        })
     }
 
     // The value at a point.
@@ -133,17 +116,15 @@ impl<'a> Form<'a> {
         ensures answer { result ≡ value_answer F.algebra self.now p }
         ensures leading { IfOk result (Leading F.algebra self.now.shape.m self.now.shape.d self.now.coefficients.now p) }
     {
-        self.check::<F>()?;
-        check_point::<F>(self.shape, p)?;
-        Ok(self.at::<F>(p))
+        let checked = self.check_for::<F>()?;
+        Ok(checked.value(p)?)
     }
 
     // The symbol of the form's codeword at a place.
     pub fn symbol<F: Field>(&self, place: usize) -> Result<u8, FormFault>
         ensures { result ≡ symbol_answer F.algebra self.now place }
     {
-        self.check::<F>()?;
-        let p = point_of::<F>(self.shape, place)?;
-        Ok(self.at::<F>(p))
+        let checked = self.check_for::<F>()?;
+        Ok(checked.symbol(place)?)
     }
 }

@@ -1,1 +1,2 @@
 pub mod HalfStores
+pub mod Rows

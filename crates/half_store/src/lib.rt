@@ -1,56 +1,55 @@
 // Two cells a byte.
 #![tactic(auto)]
 
-ghost use Rattle.std.specs.Prelude.{◌≡◌, ℕ, ◌*◌, ◌%◌, ◌<◌, min, List, [], ◌∷◌, ◌==◌};
-ghost use Rattle.cells.specs.Stores.{InAlphabet, count_of, entry_at, with_entry};
-ghost use Rattle.half_store.specs.HalfStores.{HalvesTold, half_meaning, half_kept, half_of, with_half};
+ghost use Rattle.std.specs.Prelude.{◌≡◌, ◌%◌, ◌<◌, ◌==◌, refl};
+ghost use Rattle.half_store.specs.HalfStores.{HalvesTold, half_meaning, half_kept, half_row, half_of, with_half};
+ghost use Rattle.half_store.specs.Rows.{halves_sound, halves_told};
 
-use cells::{Entry, Store, StoreFault, WritableStore};
+use cells::Entry;
+use packed::{Packed, Packing, front};
 
 // Two cells each: 65,536 cells.
 const MOST_BYTES: usize = 32_768;
 
-const ALPHABET: u8 = 15;
-
 // The lower four bits of a byte are its first cell, the upper its second. The half 15 is missing, any other is that symbol. Bytes past 32,768 are no cells.
-#[derive(Drop)]
-pub struct HalfStore<'a> {
-    bytes: &'a mut [u8],
-}
+#[derive(Clone, Copy)]
+pub struct Halves;
 
-impl<'a> HalfStore<'a> {
-    // Any bytes are a store.
-    pub fn new(bytes: &'a mut [u8]) -> HalfStore<'a>
-        ensures same { result.bytes.now ≡ bytes.old }
-        ensures lent { result.bytes.ghost_name ≡ bytes.entry.ghost_name }
-    {
-        HalfStore { bytes }
+pub type HalfStore<'a> = Packed<'a, Halves>;
+
+impl Packing for Halves {
+    ghost meaning = { half_meaning };
+
+    ghost kept = { half_kept };
+
+    ghost written = { half_row };
+
+    ghost ALPHABET = { 15 };
+
+    const ALPHABET: u8 = 15;
+
+    fn count(bytes: &[u8]) -> usize {
+        2 * front(bytes, MOST_BYTES).len()
     }
 
-    // Gives the bytes back.
-    pub fn into_bytes(self) -> &'a mut [u8]
-        ensures same { result.now ≡ self.entry.bytes.now }
-        ensures lent { result.ghost_name ≡ self.entry.bytes.ghost_name }
-    {
-        let HalfStore { bytes } = self;
-        bytes
+    fn entry(bytes: &[u8], i: usize) -> Option<Entry> {
+        let byte = front(bytes, MOST_BYTES).get(i / 2)?;
+        Some(Entry::of_code(half_of(*byte, i), Self::ALPHABET))
     }
 
-    fn entry(&self, i: usize) -> Entry
-        requires { i < count_of (half_meaning self.now.bytes.now) }
-        ensures { result ≡ entry_at (half_meaning self.now.bytes.now) i }
-    {
-        Entry::of_code(half_of(self.bytes[i / 2], i), ALPHABET)
+    #[tactic(auto, using(crate::specs::Rows::half_count, crate::proofs::HalfCells::half_put, crate::proofs::HalfCells::half_rest))]
+    fn set(bytes: &mut [u8], i: usize, entry: Entry) {
+        if i < Self::count(bytes) {
+            let byte = &mut bytes[i / 2];
+            *byte = with_half(*byte, i, entry.code(Self::ALPHABET));
+        }
     }
 
-    fn write(&mut self, i: usize, entry: Entry)
-        requires { (i < count_of (half_meaning self.old.bytes.now)) × (InAlphabet 15 entry) }
-        ensures done { half_meaning self.new.bytes.now ≡ with_entry (half_meaning self.old.bytes.now) i entry }
-        ensures kept { half_kept self.new.bytes.now ≡ half_kept self.old.bytes.now }
-        ensures lent { self.new.bytes.ghost_name ≡ self.old.bytes.ghost_name }
-    {
-        self.bytes[i / 2] = with_half(self.bytes[i / 2], i, entry.code(ALPHABET));
-    }
+    ghost alphabet = { λ bs. refl };
+
+    ghost sound = { halves_sound };
+
+    ghost told = { halves_told };
 }
 
 // Whether cell `i` is the lower half of its byte.
@@ -67,67 +66,14 @@ fn half_of(byte: u8, i: usize) -> u8
     if is_lower(i) { byte % 16 } else { byte / 16 }
 }
 
-// `byte` with `half` in cell `i`.
+// `byte` with the lower four bits of `half` in cell `i`.
 fn with_half(byte: u8, i: usize, half: u8) -> u8
-    requires { half < 16 }
-    ensures { result ≡ with_half byte (i % 2) half }
+    ensures { result ≡ with_half byte (i % 2) (half % 16) }
 {
     if is_lower(i) {
-        byte / 16 * 16 + half
+        byte / 16 * 16 + half % 16
     } else {
-        half * 16 + byte % 16
-    }
-}
-
-fn cells_of(bytes: usize) -> usize
-    ensures { result ≡ 2 * min 32768 bytes }
-{
-    2 * bytes.min(MOST_BYTES)
-}
-
-// A store of no cells.
-impl<'a> Default for HalfStore<'a> {
-    ghost is_default = { λ s. s.bytes.now ≡ [] };
-
-    fn default() -> HalfStore<'a> {
-        HalfStore { bytes: &mut [] }
-    }
-}
-
-impl<'a> Store for HalfStore<'a> {
-    ghost meaning = { λ s. half_meaning s.bytes.now };
-
-    ghost Kept = { List ℕ };
-
-    ghost kept = { λ s. half_kept s.bytes.now };
-
-    ghost lent = { λ s. s.bytes.ghost_name ∷ [] };
-
-    fn count(&self) -> usize {
-        cells_of(self.bytes.len())
-    }
-
-    fn alphabet(&self) -> u8 {
-        ALPHABET
-    }
-
-    fn read(&mut self, i: usize) -> Result<Entry, StoreFault> {
-        StoreFault::check_access(self.count(), i)?;
-        Ok(self.entry(i))
-    }
-}
-
-impl<'a> WritableStore for HalfStore<'a> {
-    fn put(&mut self, i: usize, symbol: u8) -> Result<(), StoreFault> {
-        StoreFault::check_put(self.count(), self.alphabet(), i, symbol)?;
-        self.write(i, Entry::Symbol(symbol));
-        Ok(())
-    }
-
-    fn wipe(&mut self, i: usize) -> Result<(), StoreFault> {
-        StoreFault::check_access(self.count(), i)?;
-        self.write(i, Entry::Missing);
-        Ok(())
+        half % 16 * 16 + byte % 16
     }
 }
 

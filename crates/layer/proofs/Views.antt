@@ -1,7 +1,7 @@
 -- What a layer answers and leaves, from what the store below does at a place. `view` is what the layer means over what the store below means, and `rest` what no call changes.
-use Rattle.std.proofs.Common.{◌≡◌, ℕ, ◌+◌, ◌<◌, ◌≤◌, ltb, List, [], ◌∷◌, length, Some, None, Ok, Err, Option, Result, sym, refl, ap, ◌∙◌, inl, inr, arith}
+use Rattle.std.proofs.Common.{◌≡◌, ℕ, ◌+◌, ◌<◌, ◌≤◌, ltb, List, [], ◌∷◌, length, replicate, Some, None, Ok, Err, Option, Result, sym, refl, ap, ◌∙◌, inl, inr, arith}
 use Rattle.std.proofs.lemmas.Bool.{lt-ltb, le-ltb, cond-true, cond-false, cases_lt}
-use Rattle.std.proofs.lemmas.List.{length-set}
+use Rattle.std.proofs.lemmas.List.{length-set, length-replicate}
 use Rattle.cells.specs.declared.entries.Entry.{Entry}
 use Rattle.cells.specs.declared.entries.Entry.TheVariants.{Symbol, Missing}
 use Rattle.cells.specs.declared.faults.StoreFault.{StoreFault}
@@ -86,12 +86,12 @@ module _ {R : Type 0} (view : Meaning → Meaning) (rest : Meaning → R) (m : M
         same_passed _ _ _ _ (ap (λ x. put_below m x v) q) (record { answer = ap (λ x. put_through m x i v) q ∙ d'.answer; done = d'.done }))
   ]
 
-pub passes : {K R : Type 0} (view : Meaning → Meaning) (rest : Meaning → K → R) (m : Meaning) (k : K) (i at : ℕ) → (i < count_of (view m) → Shows view (λ x. rest x k) m i at) → (p : Option ℕ) → p ≡ place_in (view m) i at → Passes view rest m k i p
-passes view rest m k i at shows p placed =
-    let w = wipe_passed view (λ x. rest x k) m i at shows p placed in
-    let u = put_passed view (λ x. rest x k) m i at shows p placed in
+pub passes : {R : Type 0} (view : Meaning → Meaning) (rest : Meaning → R) (m : Meaning) (i at : ℕ) → (i < count_of (view m) → Shows view rest m i at) → (p : Option ℕ) → p ≡ place_in (view m) i at → Passes view rest m i p
+passes view rest m i at shows p placed =
+    let w = wipe_passed view rest m i at shows p placed in
+    let u = put_passed view rest m i at shows p placed in
     record {
-      read_answers = read_passed view (λ x. rest x k) m i at shows p placed;
+      read_answers = read_passed view rest m i at shows p placed;
       wipe_answers = w.answer;
       wipe_leaves = w.done;
       wipe_keeps = w.kept;
@@ -99,6 +99,14 @@ passes view rest m k i at shows p placed =
       put_leaves = λ v. (u v).done;
       put_keeps = λ v. (u v).kept;
     }
+
+-- a call at the place of an entry that the layer has
+pub passes_at : {R : Type 0} (view : Meaning → Meaning) (rest : Meaning → R) (m : Meaning) (i at : ℕ) → i < count_of (view m) → Shows view rest m i at → Passes view rest m i (Some at)
+passes_at view rest m i at h shows = passes view rest m i at (λ _. shows) (Some at) (sym (place_some (view m) i at h))
+
+-- some store of so many entries
+pub of_count : (n : ℕ) → (m : Meaning) × (count_of m ≡ n)
+of_count n = (record { entries = replicate n Missing; alphabet = 0 }, length-replicate n Missing)
 
 -- every entry of a layer is one below
 pub sound_passed : (m m' : Meaning) (at : ℕ → ℕ) → m'.alphabet ≡ m.alphabet → ((i : ℕ) → i < count_of m' → entry_at m' i ≡ entry_at m (at i)) → Sound m → Sound m'

@@ -36,12 +36,25 @@ abbrev pub put_below : Meaning → Option ℕ → ℕ → Meaning
 put_below m (Some at) v = put_in m at v
 put_below m None v = m
 
--- A call at a place p of the store below, which means m and keeps k, is a call of the layer at its entry i: `view` is what the layer means and `rest` what no call changes.
-pub record Passes {K R : Type 0} (view : Meaning → Meaning) (rest : Meaning → K → R) (m : Meaning) (k : K) (i : ℕ) (p : Option ℕ) : Type 0 where
+-- A call at a place p of the store below, which means m, is a call of the layer at its entry i: `view` is what the layer means and `rest` what no call changes of m.
+pub record Passes {R : Type 0} (view : Meaning → Meaning) (rest : Meaning → R) (m : Meaning) (i : ℕ) (p : Option ℕ) : Type 0 where
   pub read_answers : read_through m p i ≡ read_answer (view m) i
   pub wipe_answers : wipe_through m p i ≡ wipe_answer (view m) i
   pub wipe_leaves : view (wiped_through m p) ≡ wiped (view m) i
-  pub wipe_keeps : rest (wiped_through m p) k ≡ rest m k
+  pub wipe_keeps : rest (wiped_through m p) ≡ rest m
   pub put_answers : (v : ℕ) → put_through m p i v ≡ put_answer (view m) i v
   pub put_leaves : (v : ℕ) → view (put_below m p v) ≡ put_in (view m) i v
-  pub put_keeps : (v : ℕ) → rest (put_below m p v) k ≡ rest m k
+  pub put_keeps : (v : ℕ) → rest (put_below m p v) ≡ rest m
+
+-- What no call of a layer changes: its numbers and the entries below that it hides, and what no call changes below.
+pub record LayerKept (H K : Type 0) : Type 0 where
+  pub hidden : H
+  pub below : K
+
+-- a place for entry i, whatever store of so many entries lies below
+abbrev pub PassesAll : {R : Type 0} → (Meaning → Meaning) → (Meaning → R) → ℕ → ℕ → Option ℕ → Type 0
+PassesAll view rest below i p = (m : Meaning) → count_of m ≡ below → Passes view rest m i p
+
+-- how many entries are shown, whatever store of so many lies below
+abbrev pub ShowsOf : (Meaning → Meaning) → ℕ → ℕ → Type 0
+ShowsOf view below n = (m : Meaning) → count_of m ≡ below → n ≡ count_of (view m)

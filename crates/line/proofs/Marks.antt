@@ -1,7 +1,9 @@
 -- The marks of a line, one after the other.
-use Rattle.std.proofs.Common.{◌≡◌, ℕ, zero, suc, ◌+◌, ◌<◌, ◌≤◌, Bool, true, false, cond, ◌&&◌, ◌||◌, eqb, leb, List, [], ◌∷◌, ◌++◌, length, get_or, take, drop, Some, None, Ok, Err, Option, sym, refl, ap, ◌∙◌, ap₂, append_assoc, arith}
+use Rattle.std.proofs.Common.{◌≡◌, ℕ, zero, suc, ◌+◌, ◌<◌, ◌≤◌, Bool, true, false, cond, ◌&&◌, ◌||◌, nat_eq, leb, List, [], ◌∷◌, ◌++◌, length, get_or, take, drop, Some, None, Ok, Err, Option, sym, refl, ap, ◌∙◌, ap₂, append_assoc, arith}
 use Rattle.std.proofs.lemmas.List.{take_more, at_drop_more, at_drop_all, append-nil}
-use Rattle.std.proofs.lemmas.Bool.{eq-eqb, ne_eqb, or_left, or_right, and_parts, leb-true, eqb-false}
+use Rattle.std.proofs.lemmas.Bool.{and_parts, leb-true, eqb-false}
+use Rattle.std.specs.List.{list_any}
+use Rattle.std.proofs.lemmas.Cmp.{nat_eq_equiv}
 use Rattle.field.specs.Algebra.{Algebra}
 use Rattle.space.specs.Counts.{member}
 use Rattle.space.specs.Places.{divisor}
@@ -9,19 +11,13 @@ use Rattle.line.specs.declared.faults.LineFault.{LineFault}
 use Rattle.line.specs.declared.faults.LineFault.TheVariants.{NotAMark, RepeatedMark, ZeroPoint}
 use Rattle.line.specs.Asking.{first, point_on, mark_fault, marks_fault, unless}
 
-member_push : (x : ℕ) (ys : List ℕ) (y : ℕ) → member x (ys ++ (y ∷ [])) ≡ (member x ys || eqb x y)
-member_push x [] y = elim (eqb x y) as (λ b. (b || false) ≡ b) [ true ↦ refl | false ↦ refl ]
-member_push x (z ∷ ys) y = rw (member_push x ys y) (elim (eqb x z) as (λ b. (b || (member x ys || eqb x y)) ≡ ((b || member x ys) || eqb x y)) [ true ↦ refl | false ↦ refl ])
+contains_member : (x : ℕ) (ys : List ℕ) → list_any (λ y. nat_eq y x) ys ≡ member x ys
+contains_member x [] = refl
+contains_member x (y ∷ ys) = ap₂ (λ a b. a || b) (nat_eq_equiv.symm y x) (contains_member x ys)
 
-pub member_at : (x : ℕ) (ys : List ℕ) (j k : ℕ) → j < k → k ≤ length ys → get_or ys j 0 ≡ x → member x (take k ys) ≡ true
-member_at x [] j k h l e = absurd (omega arith)
-member_at x (y ∷ ys) j zero h l e = absurd (omega arith)
-member_at x (y ∷ ys) zero (suc k) h l e = or_left (eqb x y) (member x (take k ys)) (eq-eqb x y (sym e))
-member_at x (y ∷ ys) (suc j) (suc k) h l e = or_right (eqb x y) (member x (take k ys)) (member_at x ys j k (omega arith) (omega arith) e)
-
-pub member_more : (x : ℕ) (ys : List ℕ) (j : ℕ) → j < length ys → (get_or ys j 0 ≡ x → ⊥) → member x (take j ys) ≡ false → member x (take (j + 1) ys) ≡ false
-member_more x ys j h n m =
-    ap (member x) (take_more ys j 0 h) ∙ member_push x (take j ys) (get_or ys j 0) ∙ ap₂ (λ a b. a || b) m (ne_eqb x (get_or ys j 0) (λ e. n (sym e)))
+-- what a slice's `contains` told
+pub contains_told : (x : ℕ) (ys : List ℕ) (told b : Bool) → told ≡ list_any (λ y. nat_eq y x) ys → told ≡ b → member x ys ≡ b
+contains_told x ys told b e is = sym (contains_member x ys) ∙ sym e ∙ is
 
 module _ (F : Algebra) (w v marks : List ℕ) (i : ℕ) where
   next : i < length marks
@@ -74,7 +70,7 @@ pub sound_mark : (F : Algebra) (w v before : List ℕ) (i t : ℕ) → mark_faul
 sound_mark F w v before i t e =
     let (a, x) = choose_none (leb 1 t && leb t F.size) _ (NotAMark i) e in
     let (b, y) = pass_none (member t before) _ (RepeatedMark i) x in
-    let (c, z) = pass_none (eqb (divisor (point_on F w v t)) 0) None (ZeroPoint i) y in
+    let (c, z) = pass_none (nat_eq (divisor (point_on F w v t)) 0) None (ZeroPoint i) y in
     let (l, h) = and_parts (leb 1 t) (leb t F.size) a in
     let n = eqb-false (divisor (point_on F w v t)) 0 c in
     record { low = leb-true 1 t l; high = leb-true t F.size h; new = b; somewhere = omega arith }

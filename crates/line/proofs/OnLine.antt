@@ -6,10 +6,11 @@ use Rattle.field.specs.Vectors.{scale, add, along}
 use Rattle.field.proofs.Elements.{zero_in}
 use Rattle.field.proofs.Inverses.{times_zero}
 use Rattle.field.proofs.Vectors.{length_scale, along_codes}
+use Rattle.poly.proofs.Evals.{length_add}
 use Rattle.space.specs.declared.faults.PointFault.{PointFault}
 use Rattle.space.specs.declared.faults.PointFault.TheVariants.{AllZero}
 use Rattle.space.specs.declared.points.Location.{Location}
-use Rattle.space.specs.Places.{Point, divisor, normal, place_of}
+use Rattle.space.specs.Places.{Point, Normal, divisor, normal, place_of}
 use Rattle.space.specs.Points.{checked, location}
 use Rattle.space.proofs.Coordinates.{none_of_point}
 use Rattle.line.specs.Asking.{point_on}
@@ -32,17 +33,11 @@ module _ {F : Algebra} (L : Lawful F) where
   zeros_along t (suc n) =
       ap₂ (λ x r. x ∷ r) (ap (F.plus 0) (times_zero L t) ∙ L.plus_zero 0 (zero_in L)) (zeros_along t n)
 
-  length_add : (w v : List ℕ) → length w ≡ length v → length (add (ops F) w v) ≡ length w
-  length_add [] [] l = refl
-  length_add [] (y ∷ v) l = absurd (omega arith)
-  length_add (x ∷ w) [] l = refl
-  length_add (x ∷ w) (y ∷ v) l = ap suc (length_add w v (omega arith))
-
   pub along_point : (m t : ℕ) (w v : List ℕ) → Point F.size m w → Point F.size m v → Point F.size m (along (ops F) w v t)
   along_point m t w v a b =
       let l : length w ≡ length (scale (ops F) t v) = a.four ∙ sym (length_scale F t v ∙ b.four) in
       record {
-        four = length_add w (scale (ops F) t v) l ∙ a.four;
+        four = length_add (ops F) w (scale (ops F) t v) l ∙ a.four;
         codes = along_codes L w v t a.codes;
         past = drop_add (suc m) w (scale (ops F) t v) l ∙ ap₂ (add (ops F)) a.past (drop_scale t (suc m) v ∙ ap (scale (ops F) t) b.past) ∙ zeros_along t (3 - m);
       }
@@ -68,3 +63,10 @@ module _ {F : Algebra} (L : Lawful F) where
       cond-true (eqb q F.size) _ _ (eq-eqb q F.size s)
       ∙ ap (checked r) (none_of_point q m p (subst (λ n. Point n m p) (sym s) point))
       ∙ cond-false (eqb (divisor p) 0) _ _ (ne_eqb (divisor p) 0 (λ e. omega arith))
+
+  -- so has the point of a mark on a line of normal points
+  pub mark_located : (q m t : ℕ) (w v : List ℕ) → q ≡ F.size → Normal q m w → Normal q m v → 0 < divisor (point_on F w v t)
+      → location F q m (point_on F w v t) ≡ Ok (record { place = place_of q m (normal F (point_on F w v t)); divisor = divisor (point_on F w v t) })
+  mark_located q m t w v s a b pos =
+      let codes : (p : List ℕ) → Point q m p → Point F.size m p = λ p x. subst (λ n. Point n m p) s x in
+      located q m (point_on F w v t) s (on_point m t w v (codes w a.point) (codes v b.point)) pos

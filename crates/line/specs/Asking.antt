@@ -1,5 +1,5 @@
 -- Which lines may be asked for, and where they are read.
-use Rattle.std.specs.Prelude.{ℕ, suc, cond, ◌&&◌, List, [], ◌∷◌, ◌++◌, map, length, Some, None, Ok, Err, Option, Result, ◌==◌, nat_le, nat_lt}
+use Rattle.std.specs.Prelude.{ℕ, suc, cond, ◌&&◌, List, [], ◌∷◌, ◌++◌, map, length, Some, None, Err, Option, Result, ◌==◌, nat_le, nat_lt}
 use Rattle.fault.specs.declared.code.FaultCode.{FaultCode}
 use Rattle.fault.specs.declared.code.Part.{Part}
 use Rattle.field.specs.Algebra.{Algebra, ops}
@@ -10,7 +10,6 @@ use Rattle.readings.specs.Readings.{answer_fault_code}
 use Rattle.line.specs.declared.faults.LineFault.{LineFault}
 use Rattle.line.specs.declared.faults.LineFault.TheVariants.{OtherField, NoPlace, NoDirection, SamePlace, TooFewMarks, TooManyMarks, NotAMark, RepeatedMark, ZeroPoint, NoAnswer}
 use Rattle.line.specs.declared.lines.Target.{Target}
-use Rattle.line.specs.declared.lines.Ends.{Ends}
 
 abbrev pub line_fault_code : LineFault → FaultCode
 line_fault_code OtherField = record { part = Part.Plate; number = 20; position = 0 }
@@ -80,16 +79,16 @@ abbrev pub unless : {X : Type 0} → Option LineFault → Result X LineFault →
 unless (Some f) r = Err f
 unless None r = r
 
--- the normal points of w and v, where both are places and differ
-abbrev pub ends_answer : Algebra → ℕ → ℕ → ℕ → ℕ → Result Ends LineFault
-ends_answer F q m w v =
+-- the first refusal that the two places w and v meet
+abbrev pub ends_fault : Algebra → ℕ → ℕ → ℕ → ℕ → Option LineFault
+ends_fault F q m w v =
     cond (q == F.size)
     (cond (nat_lt w (cells q m))
     (cond (nat_lt v (cells q m))
-    (cond (v == w) (Err (SamePlace v)) (Ok (record { first = point_of q m w; second = point_of q m v })))
-    (Err (NoDirection v)))
-    (Err (NoPlace w)))
-    (Err OtherField)
+    (cond (v == w) (Some (SamePlace v)) None)
+    (Some (NoDirection v)))
+    (Some (NoPlace w)))
+    (Some OtherField)
 
 -- the list where there is no refusal, else none
 abbrev pub when_sound : {X : Type 0} → Option LineFault → List X → List X

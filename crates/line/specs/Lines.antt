@@ -1,5 +1,5 @@
 -- What is read along a line, and what a correction answers.
-use Rattle.std.specs.Prelude.{◌≡◌, ℕ, cond, List, map, take, Some, None, Ok, Err, Option, Result, nat_lt, slice_index_or}
+use Rattle.std.specs.Prelude.{◌≡◌, ℕ, cond, List, map, Some, None, Ok, Err, Option, Result, nat_lt, slice_index_or}
 use Rattle.field.specs.Algebra.{Algebra}
 use Rattle.cells.specs.declared.entries.Entry.{Entry}
 use Rattle.cells.specs.declared.entries.Entry.TheVariants.{Symbol, Missing}
@@ -26,10 +26,10 @@ abbrev pub line_readings : Algebra → ℕ → List Entry → ℕ → ℕ → Li
 line_readings F m entries w v marks = map (λ t. reading_of F.size entries (target F m w v t)) marks
 
 abbrev pub targets_of : {F : Type 0} → AskedLine F → List Target
-targets_of l = take l.count l.targets
+targets_of l = l.targets.items
 
 abbrev pub readings_of : {F : Type 0} → GatheredLine F → List Reading
-readings_of l = take l.count l.readings
+readings_of l = l.readings.items
 
 abbrev pub LineAnswers : Algebra → ℕ → List Reading → Result AnsweredLine LineFault → Type 0
 LineAnswers F d rs (Ok a) = Answers F d rs (Ok a)

@@ -7,7 +7,7 @@ ghost use Rattle.line.specs.Fair.{Fair, restored, FairRestored};
 
 use crate::ask::check_line;
 use crate::faults::LineFault;
-use crate::lines::AskedLine;
+use crate::lines::{AskedLine, LineRequest};
 use cells::Store;
 use field::Field;
 use readings::{AnswerFault, AnsweredLine};
@@ -17,37 +17,30 @@ use space::Shape;
 fn gathered_answer<F: Field, S: Store>(
     shape: Shape,
     store: &mut S,
-    w: usize,
-    v: usize,
-    marks: &[u8],
+    request: &LineRequest,
 ) -> Result<AnsweredLine, AnswerFault>
-    requires { ask_fault F.algebra shape.q shape.m shape.d w v marks.now ≡ None }
-    ensures answer { Answers F.algebra shape.d (line_readings F.algebra shape.m (S.meaning store.old).entries w v marks.now) result }
-    ensures fair { (form : List ℕ) → form_fault F.algebra shape.q shape.m shape.d form ≡ None → Fair F.algebra shape.m shape.d form (S.meaning store.old).entries w v marks.now → result ≡ Ok (restored F.algebra shape.m shape.d form (S.meaning store.old).entries w v marks.now) }
+    requires { ask_fault F.algebra shape.q shape.m shape.d request.now.place request.now.direction request.now.marks.now ≡ None }
+    ensures answer { Answers F.algebra shape.d (line_readings F.algebra shape.m (S.meaning store.old).entries request.now.place request.now.direction request.now.marks.now) result }
+    ensures fair { (form : List ℕ) → form_fault F.algebra shape.q shape.m shape.d form ≡ None → Fair F.algebra shape.m shape.d form (S.meaning store.old).entries request.now.place request.now.direction request.now.marks.now → result ≡ Ok (restored F.algebra shape.m shape.d form (S.meaning store.old).entries request.now.place request.now.direction request.now.marks.now) }
     ensures same { S.meaning store.new ≡ S.meaning store.old }
     ensures kept { S.kept store.new ≡ S.kept store.old }
     ensures lent { S.lent store.new ≡ S.lent store.old }
 {
-    let asked = AskedLine::<F>::new(shape, w, v, marks);
-    let gathered = asked.gather(store);
-    gathered.answer()
+    AskedLine::<F>::new(shape, request).gather(store).answer()
 }
 
-// Asks, gathers and answers the line through w in the direction v. It changes no cell.
+// Asks, gathers and answers the line. It changes no cell.
 pub fn correct<F: Field, S: Store>(
     shape: Shape,
     store: &mut S,
-    w: usize,
-    v: usize,
-    marks: &[u8],
+    request: &LineRequest,
 ) -> Result<AnsweredLine, LineFault>
-    ensures answer { Corrects F.algebra shape.q shape.m shape.d (S.meaning store.old).entries w v marks.now result }
-    ensures fair { FairRestored F.algebra shape.q shape.m shape.d (S.meaning store.old).entries w v marks.now result }
+    ensures answer { Corrects F.algebra shape.q shape.m shape.d (S.meaning store.old).entries request.now.place request.now.direction request.now.marks.now result }
+    ensures fair { FairRestored F.algebra shape.q shape.m shape.d (S.meaning store.old).entries request.now.place request.now.direction request.now.marks.now result }
     ensures same { S.meaning store.new ≡ S.meaning store.old }
     ensures kept { S.kept store.new ≡ S.kept store.old }
     ensures lent { S.lent store.new ≡ S.lent store.old }
 {
-    check_line::<F>(shape, w, v, marks)?;
-    let answered = gathered_answer::<F, S>(shape, store, w, v, marks)?;
-    Ok(answered)
+    check_line::<F>(shape, request)?;
+    Ok(gathered_answer::<F, S>(shape, store, request)?)
 }

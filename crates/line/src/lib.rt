@@ -10,4 +10,4 @@ mod moves;
 pub use ask::check_line;
 pub use corrections::correct;
 pub use faults::LineFault;
-pub use lines::{AskedLine, GatheredLine, Target};
+pub use lines::{AskedLine, GatheredLine, LineRequest, Target};

@@ -1,60 +1,16 @@
 // The moves of a line.
-ghost use Rattle.std.specs.Prelude.{◌≡◌, ℕ, ◌+◌, ◌-◌, ◌<◌, ◌≤◌, [], map, length, None};
-ghost use Rattle.space.specs.Places.{Normal, divisor};
-ghost use Rattle.decode.specs.Width.{points_most};
+ghost use Rattle.std.specs.Prelude.{◌≡◌, ◌+◌, ◌-◌, ◌<◌, ◌≤◌, map, length};
 ghost use Rattle.readings.specs.Readings.{Answers, OneExplains, NearAnswered, usable};
-ghost use Rattle.line.specs.Asking.{point_on, target_at, marks_fault, asked_targets};
+ghost use Rattle.line.specs.Asking.{asked_targets};
 ghost use Rattle.line.specs.Lines.{seen as seen_entry, reading_of, targets_of, readings_of};
 
-use crate::ask::{check_line, ends, point_on};
-use crate::lines::{AskedLine, Ends, GatheredLine, Target};
+use crate::lines::{AskedLine, Ends, GatheredLine, LineRequest, Target};
+use arrayvec::ArrayVec;
 use cells::{Entry, Store};
-use decode::POINTS;
 use field::Field;
 use readings::{AnswerFault, AnsweredLine, Reading, answer};
-use space::{Shape, locate};
+use space::Shape;
 use std::marker::PhantomData;
-
-// Where mark t is read.
-fn target<F: Field>(shape: Shape, ends: Ends, t: u8) -> Target
-    requires same { shape.q ≡ F.algebra.size }
-    requires normal { Normal shape.q shape.m ends.first × Normal shape.q shape.m ends.second }
-    requires somewhere { 0 < divisor (point_on F.algebra ends.first ends.second t) }
-    ensures { result ≡ target_at F.algebra shape.m ends.first ends.second t }
-{
-    match locate::<F>(shape, point_on::<F>(ends, t)) {
-        Ok(location) => Target {
-            mark: t,
-            place: location.place,
-            divisor: location.divisor,
-        },
-        Err(_) => Target {
-            mark: t,
-            place: 0,
-            divisor: 0,
-        },
-    }
-}
-
-fn no_targets() -> [Target; POINTS]
-    ensures { length result ≡ points_most }
-{
-    [Target {
-        mark: 0,
-        place: 0,
-        divisor: 0,
-    }; POINTS]
-}
-
-fn no_readings() -> [Reading; POINTS]
-    ensures { length result ≡ points_most }
-{
-    [Reading {
-        mark: 0,
-        divisor: 0,
-        entry: Entry::Missing,
-    }; POINTS]
-}
 
 // What is read at a target.
 fn read_target<S: Store>(store: &mut S, q: u8, target: Target) -> Reading
@@ -63,14 +19,11 @@ fn read_target<S: Store>(store: &mut S, q: u8, target: Target) -> Reading
     ensures kept { S.kept store.new ≡ S.kept store.old }
     ensures lent { S.lent store.new ≡ S.lent store.old }
 {
-    let entry = match store.read(target.place) {
-        Ok(entry) => seen(q, entry),
-        Err(_) => Entry::Missing,
-    };
+    let entry = store.read(target.place).unwrap_or(Entry::Missing);
     Reading {
         mark: target.mark,
         divisor: target.divisor,
-        entry,
+        entry: seen(q, entry),
     }
 }
 
@@ -79,47 +32,24 @@ fn seen(q: u8, entry: Entry) -> Entry
     ensures { result ≡ seen_entry q entry }
 {
     match entry {
-        Entry::Symbol(s) => { if s < q { entry } else { Entry::Missing } }
-        Entry::Missing => Entry::Missing,
+        Entry::Symbol(s) if s < q => entry,
+        Entry::Symbol(_) | Entry::Missing => Entry::Missing,
     }
 }
 
 impl<F: Field> AskedLine<F> {
-    // A line to be read at each of the marks.
-    fn at_marks(shape: Shape, ends: Ends, marks: &[u8]) -> AskedLine<F>
-        requires same { shape.q ≡ F.algebra.size }
-        requires normal { Normal shape.q shape.m ends.first × Normal shape.q shape.m ends.second }
-        requires few { length marks.now ≤ points_most }
-        requires sound { marks_fault F.algebra ends.first ends.second [] 0 marks.now ≡ None }
-        ensures targets { targets_of result ≡ map (target_at F.algebra shape.m ends.first ends.second) marks.now }
+    // The line of the request. It never refuses: where the line may not be asked for, it has no marks.
+    pub fn new(shape: Shape, request: &LineRequest) -> AskedLine<F>
+        ensures targets { targets_of result ≡ asked_targets F.algebra shape.q shape.m shape.d request.now.place request.now.direction request.now.marks.now }
         ensures degree { result.d ≡ shape.d }
     {
-        let mut targets = no_targets();
-        for i in 0..marks.len() {
-            targets[i] = target::<F>(shape, ends, marks[i]);
-        }
+        let targets = match Ends::<F>::asked(shape, request) {
+            Ok(ends) => ends.targets(request.marks),
+            Err(_) => ArrayVec::new(),
+        };
         AskedLine {
             d: shape.d,
             targets,
-            count: marks.len(),
-            field: PhantomData,
-        }
-    }
-
-    // The line through w in the direction v, to be read at the marks. It never refuses: where the line may not be asked for, it has no marks.
-    pub fn new(shape: Shape, w: usize, v: usize, marks: &[u8]) -> AskedLine<F>
-        ensures targets { targets_of result ≡ asked_targets F.algebra shape.q shape.m shape.d w v marks.now }
-        ensures degree { result.d ≡ shape.d }
-    {
-        if check_line::<F>(shape, w, v, marks).is_ok() {
-            if let Ok(ends) = ends::<F>(shape, w, v) {
-                return AskedLine::at_marks(shape, ends, marks);
-            }
-        }
-        AskedLine {
-            d: shape.d,
-            targets: no_targets(),
-            count: 0,
             field: PhantomData,
         }
     }
@@ -132,22 +62,12 @@ impl<F: Field> AskedLine<F> {
         ensures kept { S.kept store.new ≡ S.kept store.old }
         ensures lent { S.lent store.new ≡ S.lent store.old }
     {
-        let AskedLine {
-            d,
-            targets,
-            count,
-            field,
-        } = self;
-        let mut readings = no_readings();
-        for i in 0..count {
-            readings[i] = read_target(store, F::size(), targets[i]);
+        let AskedLine { d, targets, field } = self;
+        let mut readings = ArrayVec::new();
+        for target in targets.as_slice() {
+            readings.push(read_target(store, F::Q, *target));
         }
-        GatheredLine {
-            d,
-            readings,
-            count,
-            field,
-        }
+        GatheredLine { d, readings, field }
     }
 }
 
@@ -161,9 +81,8 @@ impl<F: Field> GatheredLine<F> {
         let GatheredLine {
             d,
             readings,
-            count,
             field: _,
         } = self;
-        answer::<F>(d, &readings[0..count])
+        answer::<F>(d, readings.as_slice())
     }
 }

@@ -3,12 +3,22 @@ use Rattle.std.proofs.Common.{◌≡◌, ℕ, ◌+◌, ◌*◌, ◌%◌, ◌<◌
 use Rattle.std.proofs.lemmas.List.{length-take}
 use Rattle.cells.specs.Stores.{Meaning, count_of}
 use Rattle.cells.specs.Puts.{accepted, laid, put_all_in}
-use Rattle.window.specs.Windows.{WindowKept, window_meaning, window_kept}
-use Rattle.stride.specs.Strides.{MakesStride, StrideKept, stride_meaning, stride_kept}
+use Rattle.window.specs.Windows.{WindowHidden, WindowKept, window_meaning, window_hidden, window_kept}
+use Rattle.stride.specs.Strides.{MakesStride, StrideHidden, StrideKept, stride_meaning, stride_hidden, stride_kept}
 use Rattle.layer.proofs.Views.{laid_passed}
 use Rattle.window.proofs.WindowView.{window_shows, window_told}
-use Rattle.stride.proofs.StrideView.{stride_has, stride_shows, stride_told}
-use Rattle.piles.specs.Piles.{pile_meaning, pile_place, piled}
+use Rattle.stride.specs.Shown.{stride_has}
+use Rattle.stride.proofs.StrideView.{stride_shows, stride_told}
+
+-- the definitions of a pile, by its numbers
+abbrev pub pile_meaning : Meaning → ℕ → ℕ → ℕ → ℕ → Meaning
+pile_meaning m start len n step = stride_meaning (window_meaning m start len) n step
+
+abbrev pub pile_place : ℕ → ℕ → ℕ → ℕ → ℕ
+pile_place start n step i = start + (step * i) % n
+
+abbrev pub piled : Meaning → ℕ → ℕ → ℕ → ℕ → List ℕ → Meaning
+piled m start len n step symbols = laid (pile_place start n step) m 0 (take (accepted (pile_meaning m start len n step) symbols) symbols)
 
 module _ {K : Type 0} (m : Meaning) (k : K) (start len n step : ℕ) (ok : MakesStride n step) (vs : List ℕ) where
   -- what stands below where symbols were put through the pile
@@ -20,10 +30,11 @@ module _ {K : Type 0} (m : Meaning) (k : K) (start len n step : ℕ) (ok : Makes
       let h = stride_has w n step j (omega arith) in
       let b : at j < n = mod-lt (step * j) (omega (arith, h.1)) in
       omega (arith, h.0)) in
-      let a = laid_passed (λ x. window_meaning x start len) (λ x. window_kept x k start len) (λ j. start + j) at (λ x j. window_shows x k start len j) m 0 vs within in
-      let b = laid_passed (λ x. stride_meaning x n step) (λ x. stride_kept x (window_kept m k start len) n step) at (λ j. j) (λ x j. stride_shows x (window_kept m k start len) n step j ok.0 ok.3) w 0 vs (λ j l. omega arith) in (
+      let a = laid_passed (λ x. window_meaning x start len) (λ x. window_hidden x start len) (λ j. start + j) at (λ x j. window_shows x start len j) m 0 vs within in
+      let b = laid_passed (λ x. stride_meaning x n step) (λ x. stride_hidden x n step) at (λ j. j) (λ x j. stride_shows x n step j ok.0 ok.3) w 0 vs (λ j l. omega arith) in
+      let F : StrideHidden → WindowHidden → StrideKept (WindowKept K) = λ x y. record { hidden = x; below = record { hidden = y; below = k } } in (
         sym b.0 ∙ ap (λ x. stride_meaning x n step) (sym a.0),
-        sym b.1 ∙ ap (λ x. stride_kept x (window_kept m k start len) n step) (sym a.0) ∙ ap (λ x. stride_kept (window_meaning (laid (pile_place start n step) m 0 vs) start len) x n step) (sym a.1),
+        ap (λ x. F x (window_hidden m start len)) (sym b.1 ∙ ap (λ x. stride_hidden x n step) (sym a.0)) ∙ ap (F (stride_hidden (window_meaning (laid (pile_place start n step) m 0 vs) start len) n step)) (sym a.1),
       )
 
 -- what a pile means and keeps is the same over the same store with the same numbers
@@ -48,7 +59,7 @@ pub pile_done : {K : Type 0} (m m'' : Meaning) (k k'' : K) (start len n step sta
 pile_done {K} m m'' k k'' start len n step start'' len'' n'' step'' vs ok p q =
     let W = WindowKept K in
     let same = same_pile m'' m'' k'' k'' start start'' len len'' n n'' step step'' refl refl
-    (sym (ap (λ (x : StrideKept W). x.below.start) q)) (sym (ap (λ (x : StrideKept W). x.below.len) q)) (sym (ap (λ (x : StrideKept W). x.n) q)) (sym (ap (λ (x : StrideKept W). x.step) q)) in
+    (sym (ap (λ (x : StrideKept W). x.below.hidden.start) q)) (sym (ap (λ (x : StrideKept W). x.below.hidden.len) q)) (sym (ap (λ (x : StrideKept W). x.hidden.n) q)) (sym (ap (λ (x : StrideKept W). x.hidden.step) q)) in
     let some = take (accepted (pile_meaning m start len n step) vs) vs in
     let l = length-take (accepted (pile_meaning m start len n step) vs) vs in
     let m* = piled m start len n step vs in

@@ -3,101 +3,82 @@
 
 ghost use Rattle.std.specs.Prelude.{◌≡◌};
 ghost use Rattle.cells.specs.Puts.{put_all_answer};
-ghost use Rattle.byte_store.specs.ByteStores.{byte_meaning, byte_kept, byte_row};
-ghost use Rattle.half_store.specs.HalfStores.{half_meaning, half_kept, half_row};
 ghost use Rattle.piles.specs.Piles.{pile_meaning, piled};
 
-use byte_store::ByteStore;
+mod pile;
+
 use cells::{Store, StoreFault, WritableStore, put_all};
-use half_store::HalfStore;
-use stride::{Stride, StridePair};
+use packed::{Packed, Packing};
+pub use pile::Pile;
+use stride::Stride;
 use window::Window;
 
-// A stride over a window of the store.
-fn pile_over<S: Store>(store: S, start: usize, len: usize, pair: StridePair) -> Stride<Window<S>>
-    ensures store { result.below.below ≡ store }
-    ensures start { result.below.start ≡ start }
-    ensures len { result.below.len ≡ len }
-    ensures pair { result.pair ≡ pair }
-{
-    Stride::new(pair, Window::new(store, start, len))
-}
+impl Pile {
+    // The pile over a store.
+    fn over<S: Store>(self, store: S) -> Stride<Window<S>>
+        ensures store { result.below.below ≡ store }
+        ensures span { result.below.placing ≡ self.span }
+        ensures pair { result.placing ≡ self.pair }
+    {
+        Stride::new(Window::new(store, self.span), self.pair)
+    }
 
-// Puts `symbols` into the entries of the pile from 0 on, up to the first that is refused, and gives the store back.
-fn put_and_return<S: WritableStore>(
-    store: S,
-    start: usize,
-    len: usize,
-    pair: StridePair,
-    symbols: &[u8],
-) -> (S, Result<(), StoreFault>)
-    ensures answer { result.1 ≡ put_all_answer (pile_meaning (S.meaning store) start len pair.n pair.step) symbols.now }
-    ensures done { S.meaning result.0 ≡ piled (S.meaning store) start len pair.n pair.step symbols.now }
-    ensures kept { S.kept result.0 ≡ S.kept store }
-    ensures lent { S.lent result.0 ≡ S.lent store }
-{
-    let mut pile = pile_over(store, start, len, pair);
-    let answer = put_all(&mut pile, symbols);
-    (pile.into_below().into_below(), answer)
-}
+    // Puts `symbols` into the entries of the pile from 0 on, up to the first that is refused, and gives the store back.
+    fn put_and_return<S: WritableStore>(
+        self,
+        store: S,
+        symbols: &[u8],
+    ) -> (S, Result<(), StoreFault>)
+        ensures answer { result.1 ≡ put_all_answer (pile_meaning self (S.meaning store)) symbols.now }
+        ensures done { S.meaning result.0 ≡ piled self (S.meaning store) symbols.now }
+        ensures kept { S.kept result.0 ≡ S.kept store }
+        ensures lent { S.lent result.0 ≡ S.lent store }
+    {
+        let mut pile = self.over(store);
+        let answer = put_all(&mut pile, symbols);
+        (pile.into_below().into_below(), answer)
+    }
 
-// The same, with the store left where it is.
-pub fn put_through<S: WritableStore + Default + Drop>(
-    store: &mut S,
-    start: usize,
-    len: usize,
-    pair: StridePair,
-    symbols: &[u8],
-) -> Result<(), StoreFault>
-    ensures answer { result ≡ put_all_answer (pile_meaning (S.meaning store.old) start len pair.n pair.step) symbols.now }
-    ensures done { S.meaning store.new ≡ piled (S.meaning store.old) start len pair.n pair.step symbols.now }
-    ensures kept { S.kept store.new ≡ S.kept store.old }
-    ensures lent { S.lent store.new ≡ S.lent store.old }
-{
-    let (back, answer) = put_and_return(std::mem::take(store), start, len, pair, symbols);
-    *store = back;
-    answer
-}
+    // The same, with the store left where it is.
+    pub fn put_through<S: WritableStore + Default + Drop>(
+        self,
+        store: &mut S,
+        symbols: &[u8],
+    ) -> Result<(), StoreFault>
+        ensures answer { result ≡ put_all_answer (pile_meaning self (S.meaning store.old)) symbols.now }
+        ensures done { S.meaning store.new ≡ piled self (S.meaning store.old) symbols.now }
+        ensures kept { S.kept store.new ≡ S.kept store.old }
+        ensures lent { S.lent store.new ≡ S.lent store.old }
+    {
+        let (back, answer) = self.put_and_return(std::mem::take(store), symbols);
+        *store = back;
+        answer
+    }
 
-// The same over the byte store of `bytes`.
-pub fn put_into_bytes(
-    bytes: &mut [u8],
-    start: usize,
-    len: usize,
-    pair: StridePair,
-    symbols: &[u8],
-) -> Result<(), StoreFault>
-    ensures answer { result ≡ put_all_answer (pile_meaning (byte_meaning bytes.old) start len pair.n pair.step) symbols.now }
-    ensures done { bytes.new ≡ byte_row (piled (byte_meaning bytes.old) start len pair.n pair.step symbols.now) (byte_kept bytes.old) }
-{
-    let mut store = ByteStore::new(bytes);
-    put_through(&mut store, start, len, pair, symbols)
-}
-
-// The same over the half store of `bytes`.
-pub fn put_into_halves(
-    bytes: &mut [u8],
-    start: usize,
-    len: usize,
-    pair: StridePair,
-    symbols: &[u8],
-) -> Result<(), StoreFault>
-    ensures answer { result ≡ put_all_answer (pile_meaning (half_meaning bytes.old) start len pair.n pair.step) symbols.now }
-    ensures done { bytes.new ≡ half_row (piled (half_meaning bytes.old) start len pair.n pair.step symbols.now) (half_kept bytes.old) }
-{
-    let mut halves = HalfStore::new(bytes);
-    put_through(&mut halves, start, len, pair, symbols)
+    // The same over the store of `bytes`, by any packing.
+    pub fn put_into<P: Packing + Drop>(
+        self,
+        bytes: &mut [u8],
+        symbols: &[u8],
+    ) -> Result<(), StoreFault>
+        ensures answer { result ≡ put_all_answer (pile_meaning self (P.meaning bytes.old)) symbols.now }
+        ensures done { bytes.new ≡ P.written (piled self (P.meaning bytes.old) symbols.now) (P.kept bytes.old) }
+    {
+        let mut store = Packed::<P>::new(bytes);
+        self.put_through(&mut store, symbols)
+    }
 }
 
 #[cfg(test)]
 mod tests {
-    use crate::{put_into_bytes, put_into_halves};
-    use byte_store::ByteStore;
+    use crate::Pile;
+    use byte_store::{ByteStore, Bytes};
     use cells::{Entry, Store, StoreFault, WritableStore};
     use fault::Fault;
-    use half_store::HalfStore;
+    use half_store::{HalfStore, Halves};
     use std::test::Fail;
     use stride::{StrideFault, StridePair};
+    use window::Span;
 
     #[test]
     fn fifteen_takes_step_two_and_not_three(rt: HostRuntime) {
@@ -137,23 +118,26 @@ mod tests {
 
     #[test]
     fn pile_over_bytes(rt: HostRuntime) -> Result<(), Fail> {
-        let pair = StridePair::new(5, 2)?;
+        let pile = Pile {
+            span: Span { start: 1, len: 6 },
+            pair: StridePair::new(5, 2)?,
+        };
         let mut bytes = [9; 8];
-        assert_eq!(rt;
-            put_into_bytes(&mut bytes, 1, 6, pair, &[0, 1, 2, 3]),
-            Ok(())
-        );
+        assert_eq!(rt; pile.put_into::<Bytes>(&mut bytes, &[0, 1, 2, 3]), Ok(()));
         assert_eq!(rt; bytes, [9, 0, 3, 1, 9, 2, 9, 9]);
         Ok(())
     }
 
     #[test]
     fn pile_over_halves(rt: HostRuntime) -> Result<(), Fail> {
-        let pair = StridePair::new(3, 2)?;
+        let pile = Pile {
+            span: Span { start: 1, len: 3 },
+            pair: StridePair::new(3, 2)?,
+        };
         let mut bytes = [0xff; 2];
         let fault = StoreFault::NotASymbol { position: 2 };
         assert_eq!(rt;
-            put_into_halves(&mut bytes, 1, 3, pair, &[1, 2, 15]),
+            pile.put_into::<Halves>(&mut bytes, &[1, 2, 15]),
             Err(fault)
         );
         assert_eq!(rt; bytes, [0x1f, 0x2f]);

@@ -8,5 +8,5 @@ abbrev pub request : Call → Request
 request (BurnCall form) = Burn form.now
 request (SpoilCall p e) = Spoil p e
 request (ReadCall p) = Read p
-request (CorrectCall w v marks) = Correct w v marks.now
-request (MendCall w v marks) = Mend w v marks.now
+request (CorrectCall r) = Correct r.place r.direction r.marks.now
+request (MendCall r) = Mend r.place r.direction r.marks.now

@@ -1,4 +1,4 @@
-// What a plate's faults tell, and how they keep a lower part's.
+// What a plate's faults tell, and how they keep a lower part's: by hand, since the `From` of a derive does not say which fault comes of it.
 ghost use Rattle.std.specs.Prelude.{◌≡◌};
 ghost use Rattle.plate.specs.declared.faults.PlateFault.TheVariants.{AtForm, AtStore, AtLine};
 ghost use Rattle.plate.specs.Settings.{plate_fault_code};
@@ -14,11 +14,7 @@ impl Fault for PlateFault {
 
     fn code(&self) -> FaultCode {
         match self {
-            PlateFault::Unfit => FaultCode {
-                part: Part::Plate,
-                number: 20,
-                position: 0,
-            },
+            PlateFault::Unfit => Part::Plate.refusal(20, 0),
             PlateFault::AtForm(fault) => fault.code(),
             PlateFault::AtStore(fault) => fault.code(),
             PlateFault::AtLine(fault) => fault.code(),
@@ -26,6 +22,7 @@ impl Fault for PlateFault {
     }
 }
 
+// By hand, all three: what a derive writes does not tell the proofs which fault comes of a `?`.
 impl From<FormFault> for PlateFault {
     ghost from_gives = { λ f r. r ≡ AtForm f };
 

@@ -1,13 +1,17 @@
 use cells::StoreFault;
 use form::FormFault;
 use line::LineFault;
+use thiserror::Error;
 
 // Why a plate refuses a call. A fault of a lower part is kept whole.
-#[derive(Clone, Copy, PartialEq, Eq, Debug)]
+#[derive(Clone, Copy, PartialEq, Eq, Debug, Error)]
 pub enum PlateFault {
-    // The plate does not fit.
+    #[error("the field, the shape and the store are not made for each other")]
     Unfit,
+    #[error(transparent)]
     AtForm(FormFault),
+    #[error(transparent)]
     AtStore(StoreFault),
+    #[error(transparent)]
     AtLine(LineFault),
 }

@@ -1,5 +1,6 @@
 // Calls that read a plate: they change no cell.
-ghost use Rattle.std.specs.Prelude.{◌≡◌, true, if◌then◌else◌, Ok, Err};
+// What a call leaves alone stands in each contract, since a type says what holds of a plate and not what a call leaves of it.
+ghost use Rattle.std.specs.Prelude.{◌≡◌, true, if◌then◌else◌, Ok, Err, OnOk};
 ghost use Rattle.plate.specs.declared.faults.PlateFault.TheVariants.{Unfit};
 ghost use Rattle.plate.specs.Settings.{setting_of, fits as is_fit};
 ghost use Rattle.plate.specs.Requests.{Acts, CanPut, Mends, told, corrected};
@@ -9,30 +10,10 @@ use crate::faults::PlateFault;
 use crate::plates::Plate;
 use cells::{Entry, Store};
 use field::Field;
-use line::correct;
+use line::{LineRequest, correct};
 use readings::AnsweredLine;
 use space::Shape;
 use std::marker::PhantomData;
-
-// The answer of a line on a plate that fits.
-fn answer_line<F: Field, S: Store>(
-    shape: Shape,
-    store: &mut S,
-    w: usize,
-    v: usize,
-    marks: &[u8],
-) -> Result<AnsweredLine, PlateFault>
-    requires { is_fit (setting_of F.algebra shape (S.meaning store.old)) ≡ true }
-    ensures acts { Acts F.algebra shape (S.meaning store.old) (CorrectRequest w v marks.now) (corrected result) (S.meaning store.new) }
-    ensures same { S.meaning store.new ≡ S.meaning store.old }
-    ensures fitting { CanPut (S.meaning store.old) w result }
-    ensures mends { Mends F.algebra shape (S.meaning store.old) w v marks.now result }
-    ensures kept { S.kept store.new ≡ S.kept store.old }
-    ensures lent { S.lent store.new ≡ S.lent store.old }
-{
-    let answered = correct::<F, S>(shape, store, w, v, marks)?;
-    Ok(answered)
-}
 
 impl<F: Field, S: Store> Plate<F, S> {
     // Keeps the entries that it finds.
@@ -50,11 +31,7 @@ impl<F: Field, S: Store> Plate<F, S> {
     pub fn into_store(self) -> S
         ensures { result ≡ self.store }
     {
-        let Plate {
-            shape: _,
-            store,
-            field: _,
-        } = self;
+        let Plate { store, .. } = self;
         store
     }
 
@@ -62,13 +39,14 @@ impl<F: Field, S: Store> Plate<F, S> {
     pub fn fits(&self) -> bool
         ensures { result ≡ is_fit (setting_of F.algebra self.now.shape (S.meaning self.now.store)) }
     {
-        self.shape.q == F::size()
+        self.shape.q == F::Q
             && self.store.count() == self.shape.n
             && self.shape.q <= self.store.alphabet()
     }
 
     pub(crate) fn check_fit(&self) -> Result<(), PlateFault>
-        ensures { result ≡ (if is_fit (setting_of F.algebra self.now.shape (S.meaning self.now.store)) then Ok tt else Err Unfit) }
+        ensures fit { OnOk result (is_fit (setting_of F.algebra self.now.shape (S.meaning self.now.store)) ≡ true) }
+        ensures answer { result ≡ (if is_fit (setting_of F.algebra self.now.shape (S.meaning self.now.store)) then Ok tt else Err Unfit) }
     {
         if self.fits() {
             Ok(())
@@ -85,36 +63,30 @@ impl<F: Field, S: Store> Plate<F, S> {
         ensures lent { S.lent self.new.store ≡ S.lent self.old.store }
     {
         self.check_fit()?;
-        let entry = self.store.read(place)?;
-        Ok(entry)
+        Ok(self.store.read(place)?)
     }
 
     // The answer of a line, and what a mend may make of it.
-    pub(crate) fn answer(
-        &mut self,
-        w: usize,
-        v: usize,
-        marks: &[u8],
-    ) -> Result<AnsweredLine, PlateFault>
-        ensures acts { Acts F.algebra self.old.shape (S.meaning self.old.store) (CorrectRequest w v marks.now) (corrected result) (S.meaning self.new.store) }
+    pub(crate) fn answer(&mut self, request: &LineRequest) -> Result<AnsweredLine, PlateFault>
+        ensures acts { Acts F.algebra self.old.shape (S.meaning self.old.store) (CorrectRequest request.now.place request.now.direction request.now.marks.now) (corrected result) (S.meaning self.new.store) }
         ensures same { S.meaning self.new.store ≡ S.meaning self.old.store }
-        ensures fitting { CanPut (S.meaning self.old.store) w result }
-        ensures mends { Mends F.algebra self.old.shape (S.meaning self.old.store) w v marks.now result }
+        ensures fitting { CanPut (S.meaning self.old.store) request.now.place result }
+        ensures mends { Mends F.algebra self.old.shape (S.meaning self.old.store) request.now.place request.now.direction request.now.marks.now result }
         ensures shape { self.new.shape ≡ self.old.shape }
         ensures kept { S.kept self.new.store ≡ S.kept self.old.store }
         ensures lent { S.lent self.new.store ≡ S.lent self.old.store }
     {
         self.check_fit()?;
-        answer_line::<F, S>(self.shape, &mut self.store, w, v, marks)
+        Ok(correct::<F, S>(self.shape, &mut self.store, request)?)
     }
 
-    // Works out the symbol at the place w from the line in the direction v.
-    pub fn correct(&mut self, w: usize, v: usize, marks: &[u8]) -> Result<AnsweredLine, PlateFault>
-        ensures acts { Acts F.algebra self.old.shape (S.meaning self.old.store) (CorrectRequest w v marks.now) (corrected result) (S.meaning self.new.store) }
+    // Works out the symbol at the request's place from its line.
+    pub fn correct(&mut self, request: &LineRequest) -> Result<AnsweredLine, PlateFault>
+        ensures acts { Acts F.algebra self.old.shape (S.meaning self.old.store) (CorrectRequest request.now.place request.now.direction request.now.marks.now) (corrected result) (S.meaning self.new.store) }
         ensures shape { self.new.shape ≡ self.old.shape }
         ensures kept { S.kept self.new.store ≡ S.kept self.old.store }
         ensures lent { S.lent self.new.store ≡ S.lent self.old.store }
     {
-        self.answer(w, v, marks)
+        self.answer(request)
     }
 }

@@ -1,11 +1,22 @@
--- What lists of coefficients come to at a point.
-use Rattle.std.proofs.Common.{◌≡◌, List, [], ◌∷◌, ◌∙◌}
+-- What sums and multiples of lists of coefficients come to at a point, and their lengths.
+use Rattle.std.proofs.Common.{◌≡◌, suc, List, [], ◌∷◌, length, refl, ap, ◌∙◌, arith}
 use Rattle.field.specs.Algebra.{Ops}
 use Rattle.field.proofs.Abstract.{IsField}
 use Rattle.field.specs.Vectors.{add, scale}
 use Rattle.poly.specs.Poly.{eval}
 use Rattle.poly.proofs.Products.{linear}
 use Rattle.field.proofs.Ring.{ring}
+
+module _ {K : Type 0} (o : Ops K) where
+  pub length_scale : (k : K) (cs : List K) → length (scale o k cs) ≡ length cs
+  length_scale k [] = refl
+  length_scale k (c ∷ cs) = ap suc (length_scale k cs)
+
+  pub length_add : (cs ds : List K) → length cs ≡ length ds → length (add o cs ds) ≡ length cs
+  length_add [] [] l = refl
+  length_add [] (d ∷ ds) l = absurd (omega arith)
+  length_add (c ∷ cs) [] l = refl
+  length_add (c ∷ cs) (d ∷ ds) l = ap suc (length_add cs ds (omega arith))
 
 module _ {K : Type 0} {o : Ops K} (L : IsField o) where
   open o use {zero as 𝟘, one as 𝟙, plus as ◌⊕◌, times as ◌⊗◌, minus as neg}

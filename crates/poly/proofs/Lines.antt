@@ -1,16 +1,13 @@
 -- A product of k linear factors is a list of k + 1 coefficients, the last of them the product of the slopes.
-use Rattle.std.proofs.Common.{◌≡◌, ℕ, zero, suc, List, [], ◌∷◌, length, sym, refl, ap, ◌∙◌, arith}
+use Rattle.std.proofs.Common.{◌≡◌, ℕ, zero, suc, List, [], ◌∷◌, length, replicate, sym, refl, ap, ◌∙◌, arith}
+use Rattle.std.proofs.lemmas.List.{length-replicate}
 use Rattle.field.specs.Algebra.{Ops}
 use Rattle.field.proofs.Abstract.{IsField}
 use Rattle.field.specs.Vectors.{add, scale}
 use Rattle.poly.specs.Poly.{eval, last}
 use Rattle.poly.proofs.Products.{linear, product_at, slopes, product, Represented}
 use Rattle.field.proofs.Ring.{ring, mul_zero}
-use Rattle.poly.proofs.Evals.{eval_add, eval_scale, eval_linear}
-
-abbrev zeros : {K : Type 0} → Ops K → ℕ → List K
-zeros o zero = []
-zeros o (suc n) = o.zero ∷ zeros o n
+use Rattle.poly.proofs.Evals.{length_add, length_scale, eval_add, eval_scale, eval_linear}
 
 module _ {K : Type 0} {o : Ops K} (L : IsField o) where
   open o use {zero as 𝟘, one as 𝟙, plus as ◌⊕◌, times as ◌⊗◌, minus as neg}
@@ -38,16 +35,6 @@ module _ {K : Type 0} {o : Ops K} (L : IsField o) where
   last_product [] x = refl
   last_product (f ∷ fs) x = last_linear f.0 f.1 𝟘 x (product o fs) ∙ ap (λ w. f.1 ⊗ w) (last_product fs 𝟘)
 
-  length_add : (cs ds : List K) → length cs ≡ length ds → length (add o cs ds) ≡ length cs
-  length_add [] [] l = refl
-  length_add [] (d ∷ ds) l = absurd (omega arith)
-  length_add (c ∷ cs) [] l = refl
-  length_add (c ∷ cs) (d ∷ ds) l = ap suc (length_add cs ds (omega arith))
-
-  length_scale : (k : K) (cs : List K) → length (scale o k cs) ≡ length cs
-  length_scale k [] = refl
-  length_scale k (c ∷ cs) = ap suc (length_scale k cs)
-
   last_add : (x y : K) (cs ds : List K) → length cs ≡ length ds → last (x ⊕ y) (add o cs ds) ≡ last x cs ⊕ last y ds
   last_add x y [] [] l = refl
   last_add x y [] (d ∷ ds) l = absurd (omega arith)
@@ -70,7 +57,7 @@ module _ {K : Type 0} {o : Ops K} (L : IsField o) where
       → Represented o k (λ t. f t ⊕ g t) (x ⊕ y)
   plus_represented k f g x y r s = record {
     coefficients = add o r.coefficients s.coefficients;
-    long = length_add r.coefficients s.coefficients (r.long ∙ sym s.long) ∙ r.long;
+    long = length_add o r.coefficients s.coefficients (r.long ∙ sym s.long) ∙ r.long;
     top =
         ap (λ w. last w (add o r.coefficients s.coefficients)) (sym (L.add_zero 𝟘))
         ∙ last_add 𝟘 𝟘 r.coefficients s.coefficients (r.long ∙ sym s.long) ∙ rw (r.top, s.top);
@@ -80,7 +67,7 @@ module _ {K : Type 0} {o : Ops K} (L : IsField o) where
   pub times_represented : (k : ℕ) (f : K → K) (x c : K) → Represented o k f x → Represented o k (λ t. c ⊗ f t) (c ⊗ x)
   times_represented k f x c r = record {
     coefficients = scale o c r.coefficients;
-    long = length_scale c r.coefficients ∙ r.long;
+    long = length_scale o c r.coefficients ∙ r.long;
     top =
         ap (λ w. last w (scale o c r.coefficients)) (sym (mul_zero L c))
         ∙ last_scale c 𝟘 r.coefficients ∙ rw r.top;
@@ -96,22 +83,18 @@ module _ {K : Type 0} {o : Ops K} (L : IsField o) where
     at = λ t. ef t ∙ r.at t;
   }
 
-  length_zeros : (n : ℕ) → length (zeros o n) ≡ n
-  length_zeros zero = refl
-  length_zeros (suc n) = ap suc (length_zeros n)
-
-  last_zeros : (n : ℕ) → last 𝟘 (zeros o n) ≡ 𝟘
+  last_zeros : (n : ℕ) → last 𝟘 (replicate n 𝟘) ≡ 𝟘
   last_zeros zero = refl
   last_zeros (suc n) = last_zeros n
 
-  eval_zeros : (n : ℕ) (t : K) → 𝟘 ≡ eval o (zeros o n) t
+  eval_zeros : (n : ℕ) (t : K) → 𝟘 ≡ eval o (replicate n 𝟘) t
   eval_zeros zero t = refl
   eval_zeros (suc n) t = rw (← eval_zeros n t) (simp (ring, L))
 
   pub nothing : (k : ℕ) → Represented o k (λ _. 𝟘) 𝟘
   nothing k = record {
-    coefficients = zeros o (suc k);
-    long = length_zeros (suc k);
+    coefficients = replicate (suc k) 𝟘;
+    long = length-replicate (suc k) 𝟘;
     top = last_zeros (suc k);
     at = eval_zeros (suc k);
   }

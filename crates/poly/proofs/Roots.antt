@@ -6,7 +6,7 @@ use Rattle.field.proofs.Abstract.{IsField}
 use Rattle.field.specs.Vectors.{add, scale}
 use Rattle.poly.specs.Poly.{eval, Distinct}
 use Rattle.field.proofs.Ring.{ring, add_back, no_zero_divisor, differ, zero_add, neg_one, same}
-use Rattle.poly.proofs.Evals.{eval_add, eval_scale}
+use Rattle.poly.proofs.Evals.{length_add, length_scale, eval_add, eval_scale}
 
 module _ {K : Type 0} (o : Ops K) where
   -- what the tails of the list come to at a: the quotient of (c ∷ cs) by (X − a)
@@ -80,12 +80,6 @@ module _ {K : Type 0} {o : Ops K} (L : IsField o) where
   agree_zeros cs ds [] h = tt
   agree_zeros cs ds (r ∷ rs) h = (agree_zero cs ds r h.0, agree_zeros cs ds rs h.1)
 
-  length_difference : (k : K) (cs ds : List K) → length cs ≡ length ds → length (add o cs (scale o k ds)) ≡ length cs
-  length_difference k [] [] l = refl
-  length_difference k [] (d ∷ ds) l = absurd (omega arith)
-  length_difference k (c ∷ cs) [] l = refl
-  length_difference k (c ∷ cs) (d ∷ ds) l = ap suc (length_difference k cs ds (omega arith))
-
   no_difference : (cs ds : List K) → length cs ≡ length ds → AllByRecursion (λ c. c ≡ 𝟘) (add o cs (scale o (neg 𝟙) ds)) → cs ≡ ds
   no_difference [] [] l z = refl
   no_difference [] (d ∷ ds) l z = absurd (omega arith)
@@ -96,4 +90,4 @@ module _ {K : Type 0} {o : Ops K} (L : IsField o) where
       → AllByRecursion (λ r. eval o cs r ≡ eval o ds r) rs → cs ≡ ds
   unique rs cs ds l m n h =
       no_difference cs ds (omega arith)
-      (all_zeros rs (add o cs (scale o (neg 𝟙) ds)) (length_difference (neg 𝟙) cs ds (omega arith) ∙ l) n (agree_zeros cs ds rs h))
+      (all_zeros rs (add o cs (scale o (neg 𝟙) ds)) (length_add o cs (scale o (neg 𝟙) ds) (omega (arith, length_scale o (neg 𝟙) ds)) ∙ l) n (agree_zeros cs ds rs h))

@@ -8,12 +8,12 @@ ghost use Rattle.poly.specs.Poly.{eval};
 use field::Field;
 
 // The value at x.
+#[tactic(auto, using(crate::proofs::Folds::fold_back))]
 pub fn evaluate<F: Field>(coefficients: &[u8], x: u8) -> u8
     ensures { result ≡ eval (ops F.algebra) coefficients.now x }
 {
-    let mut total = 0;
-    for k in (0..coefficients.len()).rev() {
-        total = F::add(coefficients[k], F::mul(x, total));
-    }
-    total
+    coefficients
+        .iter()
+        .rev()
+        .fold(0, |total, c| F::add(*c, F::mul(x, total)))
 }

@@ -1,5 +1,5 @@
 -- What a polynomial says at the marks is what it says backwards at their points.
-use Rattle.std.proofs.Common.{◌≡◌, ℕ, suc, ◌+◌, ◌<◌, ◌≤◌, true, false, cond, not, ◌&&◌, eqb, leb, ◌≢◌, List, [], ◌∷◌, map, reverse, length, get_or, sym, refl, ap, ◌∙◌, subst, ap₂, ⊎_elim, arith}
+use Rattle.std.proofs.Common.{◌≡◌, ℕ, suc, ◌+◌, ◌<◌, ◌≤◌, true, false, cond, not, unwrap_or, ◌&&◌, eqb, leb, ◌≢◌, List, [], ◌∷◌, map, reverse, length, get_or, sym, refl, ap, ◌∙◌, subst, ap₂, ⊎_elim, arith}
 use Rattle.std.specs.List.{AllByRecursion}
 use Rattle.std.proofs.lemmas.Bool.{cases_eq, eq-eqb, ne_eqb, and_parts, leb-true, not-true, or_parts, eqb-false}
 use Rattle.field.specs.Algebra.{Algebra, Lawful, Codes, ops, power}
@@ -9,7 +9,6 @@ use Rattle.poly.specs.Poly.{eval}
 use Rattle.cells.specs.declared.entries.Entry.{Entry}
 use Rattle.cells.specs.declared.entries.Entry.TheVariants.{Symbol, Missing}
 use Rattle.decode.specs.Near.{Points, places, through, misses}
-use Rattle.decode.specs.Fitted.{value_or}
 use Rattle.decode.proofs.Codes.{eval_in, cancel_times}
 use Rattle.readings.specs.declared.kinds.Reading.{Reading}
 use Rattle.readings.specs.Counts.{count}
@@ -44,7 +43,7 @@ same_test a b c d to from =
 module _ {F : Algebra} (L : Lawful F) where
   -- a mark other than infinity
   over_is : (t : ℕ) → Mark F.size t → t ≢ F.size → over_mark F t ≡ F.over t
-  over_is t m n = ap value_or (inverse_at L t m.low (omega (arith, m.high)))
+  over_is t m n = ap (λ o. unwrap_or o 0) (inverse_at L t m.low (omega (arith, m.high)))
 
   point_infinite : (d : ℕ) (r : Reading) (y : ℕ) → r.mark ≡ F.size → point_of F d r y ≡ (0, value_of F d r y)
   point_infinite d r y e = rw (eq-eqb r.mark F.size e) refl

@@ -1,17 +1,16 @@
 -- The readings as points of the search. With U for 1 / X the line is read from its other end: H of degree d becomes G(U) = U^d H(1 / U), whose
 -- coefficients are those of H backwards, and infinity becomes the point 0.
-use Rattle.std.specs.Prelude.{ℕ, Bool, false, cond, not, List, [], ◌∷◌, ◌==◌}
+use Rattle.std.specs.Prelude.{ℕ, Bool, false, cond, not, unwrap_or, List, [], ◌∷◌, ◌==◌}
 use Rattle.field.specs.Algebra.{Algebra, inverse, ops, power}
 use Rattle.cells.specs.declared.entries.Entry.{Entry}
 use Rattle.cells.specs.declared.entries.Entry.TheVariants.{Symbol, Missing}
 use Rattle.decode.specs.Near.{through}
-use Rattle.decode.specs.Fitted.{value_or}
 use Rattle.readings.specs.declared.kinds.Reading.{Reading}
 use Rattle.readings.specs.Readings.{value_of}
 
 -- 1 / t, with 0 for what has no inverse
 abbrev pub over_mark : Algebra → ℕ → ℕ
-over_mark F t = value_or (inverse F t)
+over_mark F t = unwrap_or (inverse F t) 0
 
 -- The point (1 / t, (1 / t)^d times the value) of a symbol y read at mark t, and (0, the value) at infinity.
 abbrev pub point_of : Algebra → ℕ → Reading → ℕ → ℕ × ℕ

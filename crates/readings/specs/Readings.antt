@@ -1,5 +1,6 @@
 -- What the readings of a line say of the polynomial along it.
-use Rattle.std.specs.Prelude.{◌≡◌, ℕ, suc, ◌+◌, ◌-◌, ◌*◌, ◌/◌, ◌<◌, ◌≤◌, Bool, true, false, cond, not, ◌&&◌, ◌||◌, List, [], ◌∷◌, map, length, Ok, Err, Result, ◌==◌, nat_le, slice_index}
+use Rattle.std.specs.Prelude.{◌≡◌, ℕ, suc, ◌+◌, ◌-◌, ◌*◌, ◌/◌, ◌<◌, ◌≤◌, Bool, true, false, cond, not, ◌&&◌, List, [], ◌∷◌, map, length, Ok, Err, Result, ◌==◌, nat_le, slice_index}
+use Rattle.std.specs.List.{list_any}
 use Rattle.fault.specs.declared.code.FaultCode.{FaultCode}
 use Rattle.fault.specs.declared.code.Part.{Part}
 use Rattle.field.specs.Algebra.{Algebra, Codes, ops, power}
@@ -78,8 +79,7 @@ NearAnswered F d rs r =
 
 -- Marks that can be told apart: each 1 to q, and none twice.
 abbrev pub has_mark : ℕ → List Reading → Bool
-has_mark t [] = false
-has_mark t (r ∷ rs) = r.mark == t || has_mark t rs
+has_mark t rs = list_any (λ r. r.mark == t) rs
 
 abbrev pub marked : ℕ → List Reading → Bool
 marked q [] = true

@@ -3,9 +3,9 @@
 
 mod decide;
 mod kinds;
-mod list;
-mod marks;
 mod points;
+mod tellable;
+mod usable;
 
 pub use decide::answer;
 pub use kinds::{AnswerFault, AnsweredLine, Reading};

@@ -1,54 +1,40 @@
 // Readings as points of the search.
-ghost use Rattle.std.specs.Prelude.{◌≡◌, ℕ, ◌+◌, ◌-◌, ◌<◌, ◌≤◌, length, take};
-ghost use Rattle.decode.specs.Width.{points_most};
-ghost use Rattle.readings.specs.Points.{over_mark, point_of, points_of};
+ghost use Rattle.std.specs.Prelude.{◌≡◌};
+ghost use Rattle.readings.specs.Readings.{is_missing};
+ghost use Rattle.readings.specs.Points.{point_of, misses_reading};
 
 use crate::kinds::Reading;
-use crate::list::PointList;
 use cells::Entry;
-use decode::POINTS;
 use field::{Field, power};
-
-// 1 / t, and 0 where t has no inverse.
-fn over_mark<F: Field>(t: u8) -> u8
-    ensures { result ≡ over_mark F.algebra t }
-{
-    match F::inv(t) {
-        Some(over) => over,
-        None => 0,
-    }
-}
+use poly::evaluate;
 
 // The point of a reading with the symbol y.
 pub(crate) fn point<F: Field>(d: usize, reading: Reading, y: u8) -> (u8, u8)
     ensures { result ≡ point_of F.algebra d reading y }
 {
     let value = F::mul(power::<F>(reading.divisor, d), y);
-    if reading.mark == F::size() {
+    if reading.mark == F::Q {
         return (0, value);
     }
-    let over = over_mark::<F>(reading.mark);
+    let over = F::inv(reading.mark).unwrap_or(0);
     (over, F::mul(power::<F>(over, d), value))
 }
 
-fn no_points() -> [(u8, u8); POINTS]
-    ensures { length result ≡ points_most }
+pub(crate) fn lacks_symbol(reading: Reading) -> bool
+    ensures { result ≡ is_missing reading }
 {
-    [(0, 0); POINTS]
+    matches!(reading.entry, Entry::Missing)
 }
 
-// The points of the symbols that were read.
-pub(crate) fn points<F: Field>(d: usize, readings: &[Reading]) -> PointList
-    requires { length readings.now ≤ points_most }
-    ensures { take result.count result.items ≡ points_of F.algebra d readings.now }
+// Whether a symbol was read, and the polynomial does not go through its point.
+pub(crate) fn misses<F: Field>(d: usize, g: &[u8], reading: Reading) -> bool
+    ensures { result ≡ misses_reading F.algebra d g.now reading }
 {
-    let mut items = no_points();
-    let mut count = 0;
-    for i in 0..readings.len() {
-        if let Entry::Symbol(y) = readings[i].entry {
-            items[count] = point::<F>(d, readings[i], y);
-            count += 1;
+    match reading.entry {
+        Entry::Symbol(y) => {
+            let p = point::<F>(d, reading, y);
+            evaluate::<F>(g, p.0) != p.1
         }
+        Entry::Missing => false,
     }
-    PointList { items, count }
 }

@@ -1,8 +1,6 @@
-mod Kept
-pub mod Numerals
+mod Numerals
 mod Listed
-pub mod Chosen
+mod Chosen
 mod Pieces
-pub mod Lengths
-pub mod ReadBack
-pub mod Places
+mod Lengths
+mod ReadBack

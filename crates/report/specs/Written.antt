@@ -1,10 +1,19 @@
--- A text at the start of a place.
-use Rattle.std.specs.Prelude.{ℕ, Bool, cond, List, ◌++◌, length, take, drop, Some, None, Option, nat_le}
+-- A text as it grows, and at the start of a place.
+use Rattle.std.specs.Prelude.{ℕ, ◌+◌, ◌≤◌, Bool, cond, List, ◌++◌, length, drop, Some, None, Option, nat_le}
 use Rattle.report.specs.declared.buffer.Text.{Text}
+use Rattle.report.specs.Room.{room}
 
 -- what a buffer holds
 abbrev pub written : Text → List ℕ
-written t = take t.len t.bytes
+written t = t.bytes.items
+
+-- n bytes more fit
+abbrev pub RoomFor : ℕ → Text → Type 0
+RoomFor n t = length (written t) + n ≤ room
+
+-- at most n bytes longer
+abbrev pub LongerBy : ℕ → Text → Text → Type 0
+LongerBy n old new = length (written new) ≤ length (written old) + n
 
 -- the text is not longer than the place
 abbrev pub fits : List ℕ → List ℕ → Bool

@@ -1,13 +1,10 @@
-ghost use Rattle.std.specs.Prelude.{◌≤◌};
-ghost use Rattle.report.specs.Room.{room};
+use arrayvec::ArrayVec;
 
 // No report is longer than this, whatever its numbers.
 pub(crate) const ROOM: usize = 288;
 
-// A text as it grows: the first `len` of the bytes.
+// A text as it grows.
 #[derive(Drop)]
 pub(crate) struct Text {
-    pub(crate) bytes: [u8; ROOM],
-    pub(crate) len: usize,
-    ghost within: { len ≤ room },
+    pub(crate) bytes: ArrayVec<u8, ROOM>,
 }

@@ -1,112 +1,122 @@
-// Texts put together. What goes past the room is left out.
-ghost use Rattle.std.specs.Prelude.{◌≡◌, ℕ, ◌<◌, ◌≤◌, [], ◌∷◌, ◌++◌, length, slice_index};
-ghost use Rattle.report.specs.Room.{room, kept};
-ghost use Rattle.report.specs.Written.{written};
-ghost use Rattle.report.specs.Reports.{numeral, symbol_text, mark_text, mark_of, separator, marks_text, report_text, ShortSymbol};
+// Texts put together. Each step says how many bytes it may take, and the room is enough for all of them.
+// No Display: its law says what a fmt that succeeds wrote, but not that it succeeds, and writing a report must not fail.
+ghost use Rattle.std.specs.Prelude.{◌≡◌, [], ◌∷◌, ◌++◌, length};
+ghost use Rattle.report.specs.Written.{written, RoomFor, LongerBy};
+ghost use Rattle.report.specs.Reports.{chosen, symbol_text, mark_text, mark_of, marks_text, report_text};
 ghost use Rattle.report.specs.Meant.{meant, meant_marks};
 
-use crate::buffer::{ROOM, Text};
+use crate::buffer::Text;
 use crate::kinds::Report;
+use arrayvec::ArrayVec;
+use itoa::{Buffer, Integer};
 
-fn no_bytes() -> [u8; ROOM]
-    ensures { length result ≡ room }
+// As many marks have a bit.
+const BITS: usize = 32;
+
+// The marks whose bit is set.
+fn chosen(marks: &[u8], bits: u32) -> ArrayVec<u8, BITS>
+    ensures { result.items ≡ chosen marks.now bits }
 {
-    [0; ROOM]
+    let mut chosen = ArrayVec::new();
+    for (i, mark) in marks.iter().enumerate().take(BITS) {
+        if (bits >> i) % 2 == 1 {
+            chosen.push(*mark);
+        }
+    }
+    chosen
 }
 
 impl Text {
-    pub(crate) fn new() -> Text
+    fn new() -> Text
         ensures { written result ≡ [] }
     {
-        let bytes = no_bytes();
-        Text { bytes, len: 0 }
+        Text {
+            bytes: ArrayVec::new(),
+        }
     }
 
     pub(crate) fn as_slice(&self) -> &[u8]
         ensures { result.now ≡ written self.now }
     {
-        &self.bytes[0..self.len]
+        self.bytes.as_slice()
     }
 
     fn push(&mut self, byte: u8)
-        ensures { written self.new ≡ kept (written self.old ++ (byte ∷ [])) }
+        requires { RoomFor 1 self.old }
+        ensures text { written self.new ≡ written self.old ++ (byte ∷ []) }
+        ensures longer { LongerBy 1 self.old self.new }
     {
-        if self.len < ROOM {
-            self.bytes[self.len] = byte;
-            self.len += 1;
-        }
+        self.bytes.push(byte);
     }
 
     fn push_bytes(&mut self, bytes: &[u8])
-        ensures { written self.new ≡ kept (written self.old ++ bytes.now) }
+        requires { RoomFor (length bytes.now) self.old }
+        ensures text { written self.new ≡ written self.old ++ bytes.now }
+        ensures longer { LongerBy (length bytes.now) self.old self.new }
     {
-        for byte in bytes {
-            self.push(*byte);
-        }
+        self.bytes.try_extend_from_slice(bytes).unwrap();
     }
 
-    fn push_number(&mut self, n: u32)
-        ensures { written self.new ≡ kept (written self.old ++ numeral n) }
+    fn push_number<N: Integer>(&mut self, n: N)
+        requires { RoomFor N.MAX_STR_LEN self.old }
+        ensures text { written self.new ≡ written self.old ++ N.text n }
+        ensures longer { LongerBy N.MAX_STR_LEN self.old self.new }
     {
-        if n >= 10 {
-            self.push_number(n / 10);
-        }
-        self.push(b'0' + (n % 10) as u8);
+        let mut buffer = Buffer::new();
+        self.push_bytes(buffer.format(n).as_bytes());
     }
 
+    #[tactic(auto, using(crate::proofs::Numerals::numerals_decimal))]
     fn push_symbol(&mut self, symbol: Option<u8>)
-        ensures text { written self.new ≡ kept (written self.old ++ symbol_text symbol) }
-        ensures byte { ShortSymbol symbol }
+        requires { RoomFor 3 self.old }
+        ensures text { written self.new ≡ written self.old ++ symbol_text symbol }
+        ensures longer { LongerBy 3 self.old self.new }
     {
         match symbol {
-            Some(s) => self.push_number(u32::from(s)),
+            Some(s) => self.push_number(s),
             None => self.push(b'-'),
         }
     }
 
+    #[tactic(auto, using(crate::proofs::Numerals::numerals_decimal))]
     fn push_mark(&mut self, mark: u8, infinity: u8)
-        ensures { written self.new ≡ kept (written self.old ++ mark_text (mark_of infinity mark)) }
+        requires { RoomFor 3 self.old }
+        ensures text { written self.new ≡ written self.old ++ mark_text (mark_of infinity mark) }
+        ensures longer { LongerBy 3 self.old self.new }
     {
         if mark == infinity {
             self.push_bytes(b"inf");
         } else {
-            self.push_number(u32::from(mark));
+            self.push_number(mark);
         }
-    }
-
-    // A mark of a list, after a comma unless it is the first.
-    fn push_listed(&mut self, first: bool, mark: u8, infinity: u8)
-        ensures { written self.new ≡ kept (written self.old ++ (separator first ++ mark_text (mark_of infinity mark))) }
-    {
-        if !first {
-            self.push(b',');
-        }
-        self.push_mark(mark, infinity);
     }
 
     // The marks whose bit is set, with commas between.
+    #[tactic(auto, using(crate::proofs::Listed::from_more))]
     fn push_marks(&mut self, marks: &[u8], infinity: u8, bits: u32)
-        ensures text { written self.new ≡ kept (written self.old ++ marks_text (meant_marks marks.now infinity bits)) }
-        ensures bytes { (i : ℕ) → slice_index marks.now i < 256 }
+        requires { RoomFor 128 self.old }
+        ensures text { written self.new ≡ written self.old ++ marks_text (meant_marks marks.now infinity bits) }
+        ensures longer { LongerBy 128 self.old self.new }
     {
-        let mut rest = bits;
-        let mut first = true;
-        for mark in marks {
-            if rest % 2 == 1 {
-                self.push_listed(first, *mark, infinity);
-                first = false;
-            }
-            rest /= 2;
-        }
-        if first {
+        let chosen = chosen(marks, bits);
+        let Some((first, others)) = chosen.split_first() else {
             self.push(b'-');
+            return;
+        };
+        self.push_mark(*first, infinity);
+        for mark in others {
+            self.push(b',');
+            self.push_mark(*mark, infinity);
         }
     }
+}
 
-    pub(crate) fn push_report(&mut self, report: &Report)
-        ensures text { written self.new ≡ kept (written self.old ++ report_text (meant report.now)) }
-        ensures short { length (report_text (meant report.now)) ≤ room }
-    {
+impl<'a> From<&Report<'a>> for Text {
+    ghost from_gives = { λ report text. written text ≡ report_text (meant report.now) };
+
+    #[tactic(auto, using(crate::proofs::Pieces::accepted_pieces, crate::proofs::Pieces::refused_pieces, crate::proofs::Numerals::numerals_decimal))]
+    fn from(report: &Report<'a>) -> Text {
+        let mut text = Text::new();
         match *report {
             Report::Accepted {
                 line,
@@ -116,21 +126,22 @@ impl Text {
                 wrong,
                 missing,
             } => {
-                self.push_number(line);
-                self.push_bytes(b" ok ");
-                self.push_symbol(symbol);
-                self.push(b' ');
-                self.push_marks(marks, infinity, wrong);
-                self.push(b' ');
-                self.push_marks(marks, infinity, missing);
-                self.push(b'\n');
+                text.push_number(line);
+                text.push_bytes(b" ok ");
+                text.push_symbol(symbol);
+                text.push(b' ');
+                text.push_marks(marks, infinity, wrong);
+                text.push(b' ');
+                text.push_marks(marks, infinity, missing);
+                text.push(b'\n');
             }
             Report::Refused { line, number } => {
-                self.push_number(line);
-                self.push(b' ');
-                self.push_number(u32::from(number));
-                self.push_bytes(b" - - -\n");
+                text.push_number(line);
+                text.push(b' ');
+                text.push_number(number);
+                text.push_bytes(b" - - -\n");
             }
         }
+        text
     }
 }

@@ -29,6 +29,7 @@ pub fn write_header(place: &mut [u8]) -> Option<usize>
 
 // Writes the report to the start of the place, where it fits, and tells how long it is.
 // A report can be read back from its text, so no two have the same; one with few and small marks fits 128 bytes.
+#[tactic(auto, using(crate::proofs::ReadBack::reads_back, crate::proofs::ReadBack::reads_only_reports, crate::proofs::ReadBack::told_apart, crate::proofs::Numerals::numerals_decimal, crate::proofs::Lengths::short_fits))]
 pub fn write_report(report: &Report, place: &mut [u8]) -> Option<usize>
     ensures count { result ≡ count_placed (report_text (meant report.now)) place.old }
     ensures placed { place.new ≡ placed (report_text (meant report.now)) place.old }
@@ -38,7 +39,6 @@ pub fn write_report(report: &Report, place: &mut [u8]) -> Option<usize>
     ensures numerals { NumeralsDecimal }
     ensures short { ShortFits }
 {
-    let mut text = Text::new();
-    text.push_report(report);
+    let text = Text::from(report);
     put_front(text.as_slice(), place)
 }

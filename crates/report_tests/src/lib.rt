@@ -13,9 +13,7 @@ mod tests {
         let count = write_report(report, &mut place).ok_or("no room")?;
         assert!(rt; count == text.len() && count <= 40);
         assert!(rt; &place[0..count] == text);
-        for byte in &place[count..40] {
-            assert!(rt; *byte == 7);
-        }
+        assert!(rt; place[count..].iter().all(|byte| *byte == 7));
         Ok(())
     }
 

@@ -2,7 +2,6 @@
 #![tactic(auto)]
 
 mod fields;
-mod modulo;
 
 pub use fields::{
     Eleven, Five, Modulus, R2, R3, R5, R7, R11, R13, Residue, Seven, Thirteen, Three, Two,

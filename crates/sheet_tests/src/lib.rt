@@ -18,15 +18,11 @@ mod tests {
     struct Seventeen;
 
     impl Modulus for Seventeen {
-        const Q: u8 = 17;
-
-        ghost modulus = { 17 };
+        ghost Q = { 17 };
 
         ghost lawful = { residues_lawful 17 (lit< tt) tt };
 
-        fn size() -> u8 {
-            Self::Q
-        }
+        const Q: u8 = 17;
     }
 
     #[test]
@@ -42,24 +38,23 @@ mod tests {
         assert_eq!(rt; power::<R7>(0, 0), 1);
     }
 
-    fn shape_refusal<F: Field>(m: usize, d: usize) -> Option<ShapeFault> {
-        match Shape::new::<F>(m, d) {
-            Ok(_) => None,
-            Err(fault) => Some(fault),
-        }
-    }
-
     #[test]
     fn shapes_are_refused_in_order(rt: HostRuntime) {
         assert_eq!(rt;
-            shape_refusal::<Residue<Seventeen>>(0, 0),
+            Shape::new::<Residue<Seventeen>>(0, 0).err(),
             Some(ShapeFault::NoColumn)
         );
-        assert_eq!(rt; shape_refusal::<R5>(0, 0), Some(ShapeFault::WrongVariables));
-        assert_eq!(rt; shape_refusal::<R5>(4, 0), Some(ShapeFault::WrongVariables));
-        assert_eq!(rt; shape_refusal::<R5>(3, 0), Some(ShapeFault::WrongDegree));
-        assert_eq!(rt; shape_refusal::<R5>(3, 5), Some(ShapeFault::WrongDegree));
-        assert_eq!(rt; shape_refusal::<R5>(3, 4), None);
+        assert_eq!(rt;
+            Shape::new::<R5>(0, 0).err(),
+            Some(ShapeFault::WrongVariables)
+        );
+        assert_eq!(rt;
+            Shape::new::<R5>(4, 0).err(),
+            Some(ShapeFault::WrongVariables)
+        );
+        assert_eq!(rt; Shape::new::<R5>(3, 0).err(), Some(ShapeFault::WrongDegree));
+        assert_eq!(rt; Shape::new::<R5>(3, 5).err(), Some(ShapeFault::WrongDegree));
+        assert_eq!(rt; Shape::new::<R5>(3, 4).err(), None);
         assert_eq!(rt; ShapeFault::WrongDegree.number(), 3);
         assert_eq!(rt; ShapeFault::WrongDegree.part(), Part::Shape);
     }
@@ -93,19 +88,14 @@ mod tests {
     #[test]
     fn points_of_places(rt: HostRuntime) -> Result<(), Fail> {
         let shape = Shape::new::<R5>(2, 2)?;
-        let [a, b, c, d] = point_of::<R5>(shape, 28)?;
-        assert_eq!(rt; (a, b, c, d), (0, 1, 3, 0));
+        assert!(rt; point_of::<R5>(shape, 28)? == [0, 1, 3, 0]);
         assert!(rt; point_of::<R7>(shape, 31).is_err());
-        match point_of::<R5>(shape, 31) {
-            Ok(_) => Err(Fail::new("31 is no place")),
-            Err(fault) => {
-                assert_eq!(rt;
-                    (fault.part(), fault.number(), fault.position()),
-                    (Part::Plate, 30, 31)
-                );
-                Ok(())
-            },
-        }
+        let fault = point_of::<R5>(shape, 31).err().ok_or("31 is a place")?;
+        assert_eq!(rt;
+            (fault.part(), fault.number(), fault.position()),
+            (Part::Plate, 30, 31)
+        );
+        Ok(())
     }
 
     #[test]

@@ -1,25 +1,55 @@
--- The columns, and the table of counts.
-use Rattle.std.proofs.Common.{◌≡◌, ℕ, suc, ◌-◌, ◌<◌, ◌≤◌, Bool, false, eqb, List, [], ◌∷◌, length, get_or, sym, refl, ap, ◌∙◌, arith, eqb→eq}
-use Rattle.std.proofs.lemmas.Bool.{ne_eqb}
-use Rattle.field.proofs.Every.{every, at}
-use Rattle.space.specs.Counts.{columns, counts, cells, member, has_column}
+-- The table of counts, by the columns.
+use Rattle.std.proofs.Common.{◌≡◌, ℕ, zero, suc, ◌-◌, ◌<◌, ◌≤◌, true, false, cond, eqb, List, [], ◌∷◌, map, get_or, Some, None, sym, refl, subst, ap, rules, ◌∙◌, ⊎_elim, arith}
+use Rattle.std.specs.Prelude.{option_map}
+use Rattle.std.specs.List.{AllByRecursion, find}
+use Rattle.std.proofs.lemmas.Bool.{cases_Bool, cases_eq, eq-eqb, ne_eqb, cond-true, cond-false}
+use Rattle.space.specs.Counts.{columns, cells, member, has_column, table, counts_of}
 
-member_none : (x : ℕ) (ys : List ℕ) → ((k : ℕ) → k < length ys → get_or ys k 0 ≡ x → ⊥) → member x ys ≡ false
-member_none x [] h = refl
-member_none x (y ∷ ys) h =
-    rw (ne_eqb x y (λ e. h 0 (omega arith) (sym e))) (member_none x ys (λ k l. h (suc k) (omega arith)))
+-- what is found by its first part
+found : {X : Type 0} (f : ℕ → X) (q : ℕ) (xs : List ℕ)
+    → option_map (λ (c : ℕ × X). c.1) (find (λ c. eqb c.0 q) (map (λ x. (x, f x)) xs)) ≡ cond (member q xs) (Some (f q)) None
+found f q [] = refl
+found f q (x ∷ xs) =
+    ⊎_elim
+    (λ (e : x ≡ q). rw (e, eq-eqb q q refl) refl)
+    (λ (n : x ≡ q → ⊥). rw (ne_eqb x q n, ne_eqb q x (λ e. n (cc))) (found f q xs))
+    (cases_eq x q)
 
-pub column_none : (q : ℕ) → ((k : ℕ) → k < 10 → get_or columns k 0 ≡ q → ⊥) → has_column q ≡ false
-column_none q h = member_none q columns h
+pub column_found : (q : ℕ) → option_map (λ (c : ℕ × List ℕ). c.1) (find (λ c. eqb c.0 q) table) ≡ counts_of q
+column_found q = found (λ x. map (cells x) (1 ∷ 2 ∷ 3 ∷ [])) q columns
 
-cell_right : ℕ → ℕ → Bool
-cell_right a j = eqb (get_or (get_or counts a []) j 0) (cells (get_or columns a 0) (suc j))
+member_all : (P : ℕ → Type 0) (x : ℕ) (ys : List ℕ) → AllByRecursion P ys → member x ys ≡ true → P x
+member_all P x [] a h = absurd (cc)
+member_all P x (y ∷ ys) a h =
+    ⊎_elim
+    (λ (e : x ≡ y). subst P (sym e) a.0)
+    (λ (n : x ≡ y → ⊥). member_all P x ys a.1 (rw (ne_eqb x y n) at h))
+    (cases_eq x y)
 
--- each entry of the table is the sum of the powers
-pub table_right : (t : List (List ℕ)) → t ≡ counts → (a m : ℕ) → a < 10 → 0 < m → m ≤ 3 → get_or (get_or t a []) (m - 1) 0 ≡ cells (get_or columns a 0) m
-unfolding cell_right
-table_right t e a m ha hm h3 =
-    let one = at (cell_right a) 3 (at (λ a. every (cell_right a) 3) 10 tt a ha) (m - 1) (omega arith) in
-    let f : suc (m - 1) ≡ m = omega arith in
-    ap (λ u. get_or (get_or u a []) (m - 1) 0) e
-    ∙ eqb→eq (get_or (get_or counts a []) (m - 1) 0) (cells (get_or columns a 0) (suc (m - 1))) one ∙ ap (cells (get_or columns a 0)) f
+abbrev Few : ℕ → Type 0
+Few q = (1 < q) × (q ≤ 16)
+
+few_columns : AllByRecursion Few columns
+few_columns = search rules
+
+-- what the row of q tells
+pub record Counted (q : ℕ) (row : List ℕ) : Type 0 where
+  pub column : has_column q ≡ true
+  pub symbols : (1 < q) × (q ≤ 16)
+  pub cell : (m : ℕ) → 0 < m → m ≤ 3 → get_or row (m - 1) 0 ≡ cells q m
+
+cell_at : (f : ℕ → ℕ) (m : ℕ) → 0 < m → m ≤ 3 → get_or (map f (1 ∷ 2 ∷ 3 ∷ [])) (m - 1) 0 ≡ f m
+cell_at f zero h l = absurd (omega arith)
+cell_at f (suc zero) h l = refl
+cell_at f (suc (suc zero)) h l = refl
+cell_at f (suc (suc (suc zero))) h l = refl
+cell_at f (suc (suc (suc (suc m)))) h l = absurd (omega arith)
+
+pub counted : (q : ℕ) (row : List ℕ) → counts_of q ≡ Some row → Counted q row
+counted q row e =
+    ⊎_elim
+    (λ (h : has_column q ≡ true).
+    let r : map (cells q) (1 ∷ 2 ∷ 3 ∷ []) ≡ row = let s = sym (cond-true (has_column q) (Some (map (cells q) (1 ∷ 2 ∷ 3 ∷ []))) None h) ∙ e in cc in
+    record { column = h; symbols = member_all Few q columns few_columns h; cell = λ m a b. ap (λ w. get_or w (m - 1) 0) (sym r) ∙ cell_at (cells q) m a b })
+    (λ (h : has_column q ≡ false). absurd (let s = sym (cond-false (has_column q) (Some (map (cells q) (1 ∷ 2 ∷ 3 ∷ []))) None h) ∙ e in cc))
+    (cases_Bool (has_column q))

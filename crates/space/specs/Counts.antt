@@ -1,5 +1,6 @@
 -- The numbers of symbols, and how many places there are.
-use Rattle.std.specs.Prelude.{◌≡◌, ℕ, zero, suc, ◌+◌, ◌^◌, ◌<◌, ◌≤◌, Bool, true, false, ◌&&◌, ◌||◌, List, [], ◌∷◌, map, ◌==◌, nat_le, nat_lt, slice_index_or}
+use Rattle.std.specs.Prelude.{ℕ, zero, suc, ◌+◌, ◌^◌, Bool, false, cond, ◌&&◌, ◌||◌, List, [], ◌∷◌, map, Option, Some, None, ◌==◌, nat_le, nat_lt}
+use Rattle.std.specs.List.{zip}
 
 -- The columns of the table of counts, by their number of symbols.
 abbrev pub columns : List ℕ
@@ -12,13 +13,6 @@ member x (y ∷ ys) = x == y || member x ys
 -- q has a column
 abbrev pub has_column : ℕ → Bool
 has_column q = member q columns
-
--- q is that of column i, and so a number of symbols from 2 to 16
-pub record Column (q i : ℕ) : Type 0 where
-  pub within : i < 10
-  pub at : slice_index_or columns i 0 ≡ q
-  pub column : has_column q ≡ true
-  pub symbols : (1 < q) × (q ≤ 16)
 
 -- m is 1 to 3
 abbrev pub wide : ℕ → Bool
@@ -36,3 +30,11 @@ cells q (suc m) = cells q m + q ^ suc m
 -- The table of counts: a row for each column's q, and in it the counts at m = 1, 2 and 3.
 abbrev pub counts : List (List ℕ)
 counts = map (λ q. map (cells q) (1 ∷ 2 ∷ 3 ∷ [])) columns
+
+-- The same with each row beside its q.
+abbrev pub table : List (ℕ × List ℕ)
+table = zip columns counts
+
+-- The row of q, where it has a column.
+abbrev pub counts_of : ℕ → Option (List ℕ)
+counts_of q = cond (has_column q) (Some (map (cells q) (1 ∷ 2 ∷ 3 ∷ []))) None

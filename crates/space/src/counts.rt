@@ -1,50 +1,33 @@
-ghost use Rattle.std.specs.Prelude.{◌≡◌, ℕ, ◌<◌, ◌≤◌, false, Some, None, slice_index};
-ghost use Rattle.space.specs.Counts.{Column, columns, counts, cells, has_column};
+ghost use Rattle.std.specs.Prelude.{◌≡◌, ◌==◌, option_map};
+ghost use Rattle.std.specs.List.{find};
+ghost use Rattle.space.specs.Counts.{counts_of};
 
-const COLUMNS: [u8; 10] = [2, 3, 4, 5, 7, 8, 9, 11, 13, 16];
-
-// 1 + q + .. + q^m, for each q with a column, at m = 1, 2 and 3.
-const COUNTS: [[usize; 3]; 10] = [
-    [3, 7, 15],
-    [4, 13, 40],
-    [5, 21, 85],
-    [6, 31, 156],
-    [8, 57, 400],
-    [9, 73, 585],
-    [10, 91, 820],
-    [12, 133, 1464],
-    [14, 183, 2380],
-    [17, 273, 4369],
+// Each q with a column, and 1 + q + .. + q^m at m = 1, 2 and 3.
+const COUNTS: [(u8, [usize; 3]); 10] = [
+    (2, [3, 7, 15]),
+    (3, [4, 13, 40]),
+    (4, [5, 21, 85]),
+    (5, [6, 31, 156]),
+    (7, [8, 57, 400]),
+    (8, [9, 73, 585]),
+    (9, [10, 91, 820]),
+    (11, [12, 133, 1464]),
+    (13, [14, 183, 2380]),
+    (16, [17, 273, 4369]),
 ];
 
-fn count_table() -> &'static [[usize; 3]; 10]
-    ensures { result.now ≡ counts }
+// The row of q. A function of its own: in one chain with what is made of the row, the proof does not follow the search.
+fn row_of(rows: &[(u8, [usize; 3])], q: u8) -> Option<&(u8, [usize; 3])>
+    ensures { option_map (λ row. row.now) result ≡ find (λ row. row.0 == q) rows.now }
 {
-    &COUNTS
+    rows.iter().find(|row| row.0 == q)
 }
 
-fn column_table() -> &'static [u8; 10]
-    ensures { result.now ≡ columns }
+// The counts of places over q symbols, where q has a column.
+#[tactic(auto, using(crate::proofs::Columns::column_found))]
+pub(crate) fn counts_of(q: u8) -> Option<[usize; 3]>
+    ensures { result ≡ counts_of q }
 {
-    &COLUMNS
-}
-
-// Where q stands among the columns.
-pub(crate) fn column_of(q: u8) -> Option<usize>
-    ensures { elim result [ Some i ↦ Column q i | None ↦ has_column q ≡ false ] }
-{
-    for i in 0..10 {
-        if column_table()[i] == q {
-            return Some(i);
-        }
-    }
-    None
-}
-
-// The count of places for the q of a column.
-pub(crate) fn count(column: usize, m: usize) -> usize
-    requires { (column < 10) × ((0 < m) × (m ≤ 3)) }
-    ensures { result ≡ cells (slice_index columns column) m }
-{
-    count_table()[column][m - 1]
+    let row = row_of(&COUNTS, q)?;
+    Some(row.1)
 }

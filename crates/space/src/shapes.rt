@@ -1,7 +1,7 @@
 ghost use Rattle.std.specs.Prelude.{◌≡◌};
 ghost use Rattle.space.specs.Shapes.{ShapeAnswer, shape_fault_code};
 
-use crate::counts::{column_of, count};
+use crate::counts::counts_of;
 use crate::faults::ShapeFault;
 use crate::shape::Shape;
 use fault::{Fault, FaultCode, Part};
@@ -11,15 +11,10 @@ impl Fault for ShapeFault {
     ghost coded = { shape_fault_code };
 
     fn code(&self) -> FaultCode {
-        let number = match self {
-            ShapeFault::NoColumn => 1,
-            ShapeFault::WrongVariables => 2,
-            ShapeFault::WrongDegree => 3,
-        };
-        FaultCode {
-            part: Part::Shape,
-            number,
-            position: 0,
+        match self {
+            ShapeFault::NoColumn => Part::Shape.refusal(1, 0),
+            ShapeFault::WrongVariables => Part::Shape.refusal(2, 0),
+            ShapeFault::WrongDegree => Part::Shape.refusal(3, 0),
         }
     }
 }
@@ -29,17 +24,19 @@ impl Shape {
     pub fn new<F: Field>(m: usize, d: usize) -> Result<Shape, ShapeFault>
         ensures { ShapeAnswer F.algebra.size m d result }
     {
-        let q = F::size();
-        let Some(column) = column_of(q) else {
-            return Err(ShapeFault::NoColumn);
-        };
-        if m < 1 || m > 3 {
+        let q = F::Q;
+        let counts = counts_of(q).ok_or(ShapeFault::NoColumn)?;
+        if !(1..=3).contains(&m) {
             return Err(ShapeFault::WrongVariables);
         }
-        if d < 1 || d >= q as usize {
+        if !(1..q as usize).contains(&d) {
             return Err(ShapeFault::WrongDegree);
         }
-        let n = count(column, m);
-        Ok(Shape { q, m, d, n })
+        Ok(Shape {
+            q,
+            m,
+            d,
+            n: counts[m - 1],
+        })
     }
 }

@@ -2,25 +2,19 @@
 #![tactic(auto)]
 
 mod damaged;
+mod shown;
 mod story;
 
-use anyhow::anyhow;
 use damaged::show_line;
 use examples::sheet;
 use residue::R5;
 use space::Shape;
 use story::show_story;
 
-fn tell(rt: HostRuntime) -> anyhow::Result<()> {
+fn main(rt: HostRuntime) -> anyhow::Result<()> {
     let coefficients = sheet();
     let marks = [1, 2, 3, 4, 5];
-    let Ok(shape) = Shape::new::<R5>(2, 2) else {
-        return Err(anyhow!("no such shape"));
-    };
+    let shape = Shape::new::<R5>(2, 2)?;
     show_line::<R5>(rt, shape, &coefficients, &marks)?;
     show_story::<R5>(rt, shape, &coefficients, &marks)
-}
-
-fn main(rt: HostRuntime) -> anyhow::Result<()> {
-    tell(rt)
 }

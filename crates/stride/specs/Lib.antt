@@ -1,3 +1,4 @@
 pub mod Divisors
 pub mod PairAnswers
 pub mod Strides
+pub mod Shown

@@ -3,6 +3,7 @@ use Rattle.std.specs.Prelude.{◌≡◌, ℕ, ◌*◌, ◌%◌, ◌<◌, ◌≤�
 use Rattle.std.specs.List.{range_with_len}
 use Rattle.cells.specs.declared.entries.Entry.{Entry}
 use Rattle.cells.specs.Stores.{Meaning, count_of, entry_at}
+use Rattle.layer.specs.Places.{LayerKept}
 use Rattle.stride.specs.Divisors.{Apart}
 
 -- n and step make a stride: the step is neither 0 nor above n, the two share no divisor above 1, and n is at most 65,536
@@ -21,15 +22,21 @@ stride_meaning m n step = record { entries = cond (nat_le n (count_of m)) (strid
 abbrev pub unshown : Meaning → ℕ → List Entry
 unshown m n = cond (nat_le n (count_of m)) (drop n m.entries) m.entries
 
--- What no call changes: n and step, the entries below that are not shown, and what no call changes below.
-pub record StrideKept (K : Type 0) : Type 0 where
+-- What no call changes of the store below: n and step, and the entries that are not shown.
+pub record StrideHidden : Type 0 where
   pub n : ℕ
   pub step : ℕ
   pub others : List Entry
-  pub below : K
+
+abbrev pub stride_hidden : Meaning → ℕ → ℕ → StrideHidden
+stride_hidden m n step = record { n = n; step = step; others = unshown m n }
+
+-- What no call changes, with what no call changes below.
+abbrev pub StrideKept : Type 0 → Type 0
+StrideKept K = LayerKept StrideHidden K
 
 abbrev pub stride_kept : {K : Type 0} → Meaning → K → ℕ → ℕ → StrideKept K
-stride_kept m k n step = record { n = n; step = step; others = unshown m n; below = k }
+stride_kept m k n step = record { hidden = stride_hidden m n step; below = k }
 
 -- What a stride means and what no call changes tell what stands below.
 abbrev pub StrideTold : Type 0 → Type 0

@@ -2,6 +2,8 @@
 ghost use Rattle.std.specs.Prelude.{◌<◌, ◌≤◌};
 ghost use Rattle.stride.specs.Divisors.{Apart};
 
+use thiserror::Error;
+
 // Entry i of a stride is entry (step × i) mod n below. Since the two share no divisor above 1, no two entries lie at one place.
 #[derive(Clone, Copy, PartialEq, Eq, Debug)]
 pub struct StridePair {
@@ -13,8 +15,9 @@ pub struct StridePair {
     ghost apart: { Apart step n },
 }
 
-#[derive(Clone, Copy, PartialEq, Eq, Debug)]
+#[derive(Clone, Copy, PartialEq, Eq, Debug, Error)]
 pub enum StrideFault {
     // The step is 0 or above n, the two share a divisor above 1, or n is above 65,536.
+    #[error("no stride has this count and step")]
     NoStride,
 }

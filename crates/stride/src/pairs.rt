@@ -23,12 +23,11 @@ impl StridePair {
 fn share_none(a: usize, b: usize) -> bool
     ensures { Decides result (Apart a b) }
 {
+    // No index: the pair of numbers itself goes from step to step until one is 0.
     let mut x = a;
     let mut y = b;
     while y != 0 {
-        let rest = x % y;
-        x = y;
-        y = rest;
+        (x, y) = (y, x % y);
     }
     x == 1
 }
@@ -37,12 +36,8 @@ impl Fault for StrideFault {
     ghost coded = { stride_fault_code };
 
     fn code(&self) -> FaultCode {
-        match *self {
-            StrideFault::NoStride => FaultCode {
-                part: Part::Store,
-                number: 12,
-                position: 0,
-            },
+        match self {
+            StrideFault::NoStride => Part::Store.refusal(12, 0),
         }
     }
 }

@@ -1,4 +1,4 @@
-use Rattle.byte_store.proofs.ByteCells.{bytes_told}
+use Rattle.byte_store.specs.Rows.{bytes_told}
 use Rattle.byte_store.proofs.bytes_are_told.Goals as goal
 
 pub returns : goal.returns

@@ -1,11 +1,9 @@
-use Rattle.std.proofs.Common.{sym, ◌∙◌, arith}
-use Rattle.field.proofs.Inverses.{inverse_is, inverse_none}
+use Rattle.std.proofs.Common.{rules, arith, ◌≡◌, ◌∙◌}
+use Rattle.std.proofs.lemmas.Iterator.{first_from_Range}
+use Rattle.field.proofs.Inverses.{inverse_found}
 use Rattle.field.proofs.Field.inv.Goals as goal
-
-pub returns-then-mul-eq1 : goal.returns-then-mul-eq1
-returns-then-mul-eq1 g c =
-    inverse_is g.met.Self.Field.lawful c.args.a c.loop-b.b (omega arith) (sym c.mul.ensures ∙ c.if-mul-eq1.true)
 
 pub returns : goal.returns
 returns g c =
-    inverse_none g.met.Self.Field.lawful c.args.a (λ b p h. c.loop-b.invariant b (omega arith) p)
+    inverse_found g.met.Self.Field.lawful c.args.a _ _ (omega arith) (c.Q.ensures ∙ g.met.Self.Field.sized) c.find.result
+    (first_from_Range _ _ _ _ (λ x. g.Self.Field.algebra.times c.args.a x ≡ 1) (λ x. g.Self.Field.algebra.times c.args.a x ≡ 1 → ⊥) c.find.ensures.ran (λ x q k. search rules) (λ x q k. search rules))

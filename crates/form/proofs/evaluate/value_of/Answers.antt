@@ -11,19 +11,19 @@ use Rattle.form.proofs.OnForms.{multiples, on_lines}
 use Rattle.form.proofs.Ordered.{counted}
 use Rattle.form.proofs.evaluate.value_of.Goals as goal
 
-pub over-result-requires : goal.over-result-requires
-over-result-requires g c =
+pub over-value-requires : goal.over-value-requires
+over-value-requires g c =
     let p = c.args.p in
-    let m = c.args.m in
-    let d = c.args.d in
+    let m = c.args.shape.m in
+    let d = c.args.shape.d in
     let four : length p ≡ 4 = search rules in
-    let n : length (take (m + 1) p) ≡ m + 1 = length-take-le (m + 1) p (omega (arith, c.requires.wide)) in
-    let l : last 0 (take (m + 1) p) ≡ get_or p m 0 = last_front p 0 m (omega (arith, c.requires.wide)) in
+    let n : length (take (m + 1) p) ≡ m + 1 = length-take-le (m + 1) p (omega arith) in
+    let l : last 0 (take (m + 1) p) ≡ get_or p m 0 = last_front p 0 m (omega arith) in
     let e : m + 1 ≡ suc m = omega arith in
     let t : terms (m + 1) d ≡ length c.args.cs.now = ap (λ k. terms k d) e ∙ counted m d ∙ sym c.requires.whole in
     record {
       many = rw n (omega arith);
-      low = c.requires.low;
+      low = omega arith;
       right = λ e h. c.powers-table.ensures e h ∙ ap (λ x. power (ops g.F.Field.algebra) x e) (sym l);
       enough = rw n (omega arith);
     }
@@ -33,11 +33,11 @@ returns g c =
     let F = g.F.Field.algebra in
     let L = g.met.F.Field.lawful in
     let p = c.args.p in
-    let m = c.args.m in
-    let d = c.args.d in
+    let m = c.args.shape.m in
+    let d = c.args.shape.d in
     let four : length p ≡ 4 = search rules in
-    let n : length (take (m + 1) p) ≡ m + 1 = length-take-le (m + 1) p (omega (arith, c.requires.wide)) in
-    let e : c.over-result.result.0 ≡ nested (ops F) (take (m + 1) p) d c.args.cs.now = c.over-result.ensures.made in
+    let n : length (take (m + 1) p) ≡ m + 1 = length-take-le (m + 1) p (omega arith) in
+    let e : c.over-value.result.0 ≡ nested (ops F) (take (m + 1) p) d c.args.cs.now = c.over-value.ensures.made in
     let s : m + 1 ≡ suc m = omega arith in
     record {
       exact = e ∙ nested_codes L (take (m + 1) p) d c.args.cs.now (All-take (λ x. x < F.size) (m + 1) p c.requires.point) c.requires.codes (omega arith)

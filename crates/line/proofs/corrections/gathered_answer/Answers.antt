@@ -15,29 +15,29 @@ returns g c =
     let F = g.F.Field.algebra in
     let L = g.met.F.Field.lawful in
     let s = c.args.shape in
-    let w = c.args.w in
-    let v = c.args.v in
-    let marks = c.args.marks.now in
+    let w = c.args.request.now.place in
+    let v = c.args.request.now.direction in
+    let marks = c.args.request.now.marks.now in
     let entries = (g.S.Store.meaning c.args.store.now).entries in
     let a = asked F s.q s.m s.d w v marks c.requires in
     let sound : marks_fault F (point_of F.size s.m w) (point_of F.size s.m v) [] 0 marks ≡ None =
     subst (λ q. marks_fault F (point_of q s.m w) (point_of q s.m v) [] 0 marks ≡ None) a.same a.marks_sound in
     let rs = line_readings F s.m entries w v marks in
     let R : ℕ → Reading = λ t. reading_of F.size entries (target F s.m w v t) in
-    let targets : targets_of c.new-asked.result ≡ map (target F s.m w v) marks = c.new-asked.ensures.targets ∙ ap (λ o. when_sound o (map (target F s.m w v) marks)) c.requires in
-    let readings : readings_of c.gather-gathered.result ≡ rs =
-    c.gather-gathered.ensures.readings ∙ ap (map (reading_of F.size entries)) targets ∙ map-map (reading_of F.size entries) (target F s.m w v) marks in
-    let used : usable F.size (readings_of c.gather-gathered.result) ≡ rs =
+    let targets : targets_of c.new.result ≡ map (target F s.m w v) marks = c.new.ensures.targets ∙ ap (λ o. when_sound o (map (target F s.m w v) marks)) c.requires in
+    let readings : readings_of c.gather.result ≡ rs =
+    c.gather.ensures.readings ∙ ap (map (reading_of F.size entries)) targets ∙ map-map (reading_of F.size entries) (target F s.m w v) marks in
+    let used : usable F.size (readings_of c.gather.result) ≡ rs =
     ap (usable F.size) readings
     ∙ readings_usable F (point_of F.size s.m w) (point_of F.size s.m v) R (λ t. refl) marks sound (omega (arith, a.few, s.symbols.1)) in
-    let degree : c.gather-gathered.result.d ≡ s.d = c.gather-gathered.ensures.degree ∙ c.new-asked.ensures.degree in
+    let degree : c.gather.result.d ≡ s.d = c.gather.ensures.degree ∙ c.new.ensures.degree in
     let e = c.answer.ensures in
     let near : NearAnswered F s.d rs c.answer.result =
-    subst (λ d. NearAnswered F d rs c.answer.result) degree (subst (λ xs. NearAnswered F c.gather-gathered.result.d xs c.answer.result) used e.near) in
+    subst (λ d. NearAnswered F d rs c.answer.result) degree (subst (λ xs. NearAnswered F c.gather.result.d xs c.answer.result) used e.near) in
     record {
-      answer = subst (λ d. Answers F d rs c.answer.result) degree (subst (λ xs. Answers F c.gather-gathered.result.d xs c.answer.result) used e.answer);
+      answer = subst (λ d. Answers F d rs c.answer.result) degree (subst (λ xs. Answers F c.gather.result.d xs c.answer.result) used e.answer);
       fair = λ form f fair. fair_answer L s.m s.d form s.wide.1 (sound_form F s.q s.m s.d form f).codes w v entries marks sound fair c.answer.result near;
-      same = c.gather-gathered.ensures.same;
-      kept = c.gather-gathered.ensures.kept;
-      lent = c.gather-gathered.ensures.lent;
+      same = c.gather.ensures.same;
+      kept = c.gather.ensures.kept;
+      lent = c.gather.ensures.lent;
     }

@@ -11,7 +11,7 @@ invariant-loop-place g l =
     let F = g.F.Field.algebra in
     let start = g.S.Store.meaning l.initial.self.store in
     let store = g.S.Store.meaning l.self.store in
-    let symbol : ℕ → Entry = λ p. Symbol (symbol_at F l.initial.self.shape.m l.initial.self.shape.d l.form.coefficients.now p) in
+    let symbol : ℕ → Entry = λ p. Symbol (symbol_at F l.initial.self.shape.m l.initial.self.shape.d l.form.form.coefficients.now p) in
     (take l.place store.entries ≡ map symbol (range_with_len 0 l.place))
     × (length store.entries ≡ length start.entries)
     × (store.alphabet ≡ start.alphabet)

@@ -1,12 +1,11 @@
-use Rattle.std.proofs.Common.{◌≡◌, ◌/◌, ◌^◌, ◌++◌}
-use Rattle.report.specs.Room.{kept}
+use Rattle.std.proofs.Common.{◌≡◌, ◌+◌, ◌*◌, ◌≤◌, ◌++◌, length}
 use Rattle.report.specs.Reports.{marks_text}
 use Rattle.report.specs.Meant.{meant_marks}
 use Rattle.report.specs.Written.{written}
-use Rattle.report.proofs.Listed.{Goes_on}
+use Rattle.report.proofs.Listed.{from}
 use Rattle.report.proofs.buffer.Text.push_marks.Given as goal
 
 abbrev pub invariant-loop-mark : goal.invariant-loop-mark
 invariant-loop-mark l =
-    Goes_on l.marks l.infinity l.bits (kept (written l.initial.self ++ marks_text (meant_marks l.marks l.infinity l.bits))) l.mark-index (written l.self) l.first
-    × (l.rest ≡ l.bits / 2 ^ l.mark-index)
+    (written l.self ++ from l.infinity l.others l.mark-index ≡ written l.fn.self ++ marks_text (meant_marks l.marks l.infinity l.bits))
+    × (length (written l.self) ≤ length (written l.fn.self) + 3 + 4 * l.mark-index)

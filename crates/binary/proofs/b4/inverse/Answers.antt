@@ -1,5 +1,0 @@
-use Rattle.binary.specs.Polynomials.{inverse_looked_up}
-use Rattle.binary.proofs.b4.inverse.Goals as goal
-
-pub returns : goal.returns
-returns c = inverse_looked_up 2 7 _ c.inverse_table.ensures c.args.a c.requires.1
