@@ -5,6 +5,7 @@ use Rattle.cells.specs.declared.entries.Entry.TheVariants.{Symbol}
 use Rattle.decode.proofs.Codes.{eval_in}
 use Rattle.readings.specs.declared.kinds.Reading.{Reading}
 use Rattle.readings.specs.declared.kinds.AnsweredLine.{AnsweredLine}
+use Rattle.readings.specs.declared.kinds.AnswerFault.{AnswerFault}
 use Rattle.readings.specs.Readings.{Answers}
 use Rattle.line.proofs.Asked.{asked}
 use Rattle.line.specs.declared.faults.LineFault.{LineFault}
@@ -36,18 +37,25 @@ with_result x w (Ok a) = set x w (Symbol a.symbol)
 with_result x w (Err f) = x
 
 module _ (s : Setting) (x : Cells) (w v : ℕ) (marks : List ℕ) where
+  -- what a line that may be asked for answers: a symbol, or that it has none
+  line_cases : (P : Result AnsweredLine LineFault → Type 0)
+      → ((a : AnsweredLine) → LineTold s.field s.d (line_readings s.field s.m x w v marks) (Ok a) → P (Ok a))
+      → ((f : AnswerFault) → LineTold s.field s.d (line_readings s.field s.m x w v marks) (Err (NoAnswer f)) → P (Err (NoAnswer f)))
+      → (r : Result AnsweredLine LineFault) → LineTold s.field s.d (line_readings s.field s.m x w v marks) r → P r
+  line_cases P given none (Ok a) k = given a k
+  line_cases P given none (Err (NoAnswer f)) k = none f k
+  line_cases P given none (Err OtherField) k = absurd k
+  line_cases P given none (Err (NoPlace p)) k = absurd k
+  line_cases P given none (Err (NoDirection p)) k = absurd k
+  line_cases P given none (Err (SamePlace p)) k = absurd k
+  line_cases P given none (Err TooFewMarks) k = absurd k
+  line_cases P given none (Err TooManyMarks) k = absurd k
+  line_cases P given none (Err (NotAMark i)) k = absurd k
+  line_cases P given none (Err (RepeatedMark i)) k = absurd k
+  line_cases P given none (Err (ZeroPoint i)) k = absurd k
+
   told_line : (r : Result AnsweredLine LineFault) → LineTold s.field s.d (line_readings s.field s.m x w v marks) r → Does s x (Correct w v marks) (of_result r) x
-  told_line (Ok a) k = (Ok a, k, refl, refl)
-  told_line (Err (NoAnswer f)) k = (Err f, k, refl, refl)
-  told_line (Err OtherField) k = absurd k
-  told_line (Err (NoPlace p)) k = absurd k
-  told_line (Err (NoDirection p)) k = absurd k
-  told_line (Err (SamePlace p)) k = absurd k
-  told_line (Err TooFewMarks) k = absurd k
-  told_line (Err TooManyMarks) k = absurd k
-  told_line (Err (NotAMark i)) k = absurd k
-  told_line (Err (RepeatedMark i)) k = absurd k
-  told_line (Err (ZeroPoint i)) k = absurd k
+  told_line = line_cases (λ r. Does s x (Correct w v marks) (of_result r) x) (λ a k. (Ok a, k, refl, refl)) (λ f k. (Err f, k, refl, refl))
 
   told_or : (o : Option LineFault) (r : Result AnsweredLine LineFault)
       → RefusedOr o r (LineTold s.field s.d (line_readings s.field s.m x w v marks) r)
@@ -58,17 +66,7 @@ module _ (s : Setting) (x : Cells) (w v : ℕ) (marks : List ℕ) where
   -- the same with the symbol put at w
   mended_line : (r : Result AnsweredLine LineFault) → LineTold s.field s.d (line_readings s.field s.m x w v marks) r
       → Does s x (Mend w v marks) (of_result r) (with_result x w r)
-  mended_line (Ok a) k = (Ok a, k, refl, refl)
-  mended_line (Err (NoAnswer f)) k = (Err f, k, refl, refl)
-  mended_line (Err OtherField) k = absurd k
-  mended_line (Err (NoPlace p)) k = absurd k
-  mended_line (Err (NoDirection p)) k = absurd k
-  mended_line (Err (SamePlace p)) k = absurd k
-  mended_line (Err TooFewMarks) k = absurd k
-  mended_line (Err TooManyMarks) k = absurd k
-  mended_line (Err (NotAMark i)) k = absurd k
-  mended_line (Err (RepeatedMark i)) k = absurd k
-  mended_line (Err (ZeroPoint i)) k = absurd k
+  mended_line = line_cases (λ r. Does s x (Mend w v marks) (of_result r) (with_result x w r)) (λ a k. (Ok a, k, refl, refl)) (λ f k. (Err f, k, refl, refl))
 
   mended_or : (o : Option LineFault) (r : Result AnsweredLine LineFault)
       → RefusedOr o r (LineTold s.field s.d (line_readings s.field s.m x w v marks) r)
