@@ -18,11 +18,14 @@ byte_got bs xs i b e h q =
 pub byte_past : (bs xs : List ℕ) (i : ℕ) → xs ≡ take 65536 bs → length xs ≤ i → slice_get (byte_meaning bs).entries i ≡ None
 byte_past bs xs i e h = slice_get_past (byte_meaning bs).entries i (omega (arith, ap length e, length-map (take 65536 bs) byte_entry))
 
+pub byte_set : (bs : List ℕ) (i v : ℕ) → byte_meaning (set bs i v) ≡ with_entry (byte_meaning bs) i (byte_entry v)
+byte_set bs i v =
+    let F : List Entry → Meaning = λ es. record { entries = es; alphabet = 255 } in
+    ap F (ap (map byte_entry) (take_set_in 65536 bs i v) ∙ map-set byte_entry (take 65536 bs) i v)
+
 -- an entry put into a cell that there is
 pub byte_put : (bs : List ℕ) (i : ℕ) (e : Entry) → InAlphabet 255 e → byte_meaning (set bs i (entry_byte e)) ≡ with_entry (byte_meaning bs) i e
-byte_put bs i e h =
-    let F : List Entry → Meaning = λ es. record { entries = es; alphabet = 255 } in
-    ap F (ap (map byte_entry) (take_set_in 65536 bs i (entry_byte e)) ∙ map-set byte_entry (take 65536 bs) i (entry_byte e)) ∙ ap (with_entry (byte_meaning bs) i) (code_again 255 e h)
+byte_put bs i e h = byte_set bs i (entry_byte e) ∙ ap (with_entry (byte_meaning bs) i) (code_again 255 e h)
 
 pub byte_rest : (bs : List ℕ) (i v : ℕ) → i < count_of (byte_meaning bs) → byte_kept (set bs i v) ≡ byte_kept bs
 byte_rest bs i v h = let n = byte_count bs in drop-set-lt 65536 bs i v (omega arith)

@@ -110,6 +110,10 @@ module _ {F : Algebra} (lawful : Lawful F) where
   discrepancies_meet z n m e f hz hn hm he hf =
       ap (λ w. w.0) (scalar.discrepancies_meet (field_of lawful) (z, hz) (n, hn) (m, hm) (e, he) (f, hf))
 
+  pub minus_pos : (x : ℕ) → x < F.size → 0 < x → 0 < F.minus x
+  minus_pos x h p =
+      pos_from (F.minus x) (λ e. let z : x ≡ 0 = sym (lawful.plus_zero x h) ∙ ap (F.plus x) (sym e) ∙ lawful.plus_minus x h in omega arith)
+
   -- the factor X - u vanishes at u, and nowhere else
   pub factor_zero : (u : ℕ) → u < F.size → F.plus (F.minus u) u ≡ 0
   factor_zero u h = lawful.plus_comm (F.minus u) u ∙ lawful.plus_minus u h

@@ -14,6 +14,10 @@ use Rattle.decode.proofs.Codes.{eval_in, plus_zeros, cancel_times}
 use Rattle.decode.proofs.Picked.{picked_all, picked_apart, picked_count, misses_count}
 use Rattle.decode.proofs.Locate as abstract
 
+pub all_both : {X : Type 0} (P Q : X → Type 0) (xs : List X) → AllByRecursion P xs → AllByRecursion Q xs → AllByRecursion (λ x. P x × Q x) xs
+all_both P Q [] a b = tt
+all_both P Q (x ∷ xs) a b = ((a.0, b.0), all_both P Q xs a.1 b.1)
+
 module _ {F : Algebra} (lawful : Lawful F) where
   -- the coefficients from n on are zeros
   pub eval_cut : (n : ℕ) (cs : List ℕ) (t : ℕ) → t < F.size → ((k : ℕ) → n ≤ k → get_or cs k 0 ≡ 0) → eval (ops F) (take n cs) t ≡ eval (ops F) cs t
@@ -33,7 +37,7 @@ module _ {F : Algebra} (lawful : Lawful F) where
       let zeros : AllByRecursion (λ c. c ≡ 0) cut =
       few_roots lawful us cut in-us (All-take (λ c. c < F.size) (suc w) cs in-cs) (simp length-take (omega arith)) n
       (All-weaker (λ u. (u < F.size) × (eval (ops F) cs u ≡ 0)) (λ u. eval (ops F) cut u ≡ 0)
-      (λ u e. eval_cut (suc w) cs u e.0 (λ j i. z j (omega arith)) ∙ e.1) us (both (λ u. u < F.size) (λ u. eval (ops F) cs u ≡ 0) us in-us h)) in
+      (λ u e. eval_cut (suc w) cs u e.0 (λ j i. z j (omega arith)) ∙ e.1) us (all_both (λ u. u < F.size) (λ u. eval (ops F) cs u ≡ 0) us in-us h)) in
       ⊎_elim
       (λ (i : k < suc w). sym (get_or-take (suc w) cs k 0 i) ∙ ⊎_elim
       (λ (j : k < length cut). All-get_or (λ c. c ≡ 0) cut k 0 j zeros)
@@ -41,10 +45,6 @@ module _ {F : Algebra} (lawful : Lawful F) where
       (cases_lt k (length cut)))
       (λ (i : suc w ≤ k). z k (omega arith))
       (cases_lt k (suc w))
-    where
-      both : (P Q : ℕ → Type 0) (us : List ℕ) → AllByRecursion P us → AllByRecursion Q us → AllByRecursion (λ u. P u × Q u) us
-      both P Q [] a b = tt
-      both P Q (u ∷ us) a b = ((a.0, b.0), both P Q us a.1 b.1)
 
 module _ {F : Algebra} (lawful : Lawful F) where
   -- n is g times e everywhere where it is at more than w places

@@ -25,7 +25,7 @@ halves_set (b ∷ bs) (suc (suc i)) v h =
     let f : suc (suc i) % 2 ≡ i % 2 = omega arith in
     ap (λ k. half_entries (set (b ∷ bs) k (with_half (get_or (b ∷ bs) k 0) (suc (suc i) % 2) v))) e ∙ ap (λ p. half_entries (set (b ∷ bs) (suc (i / 2)) (with_half (get_or bs (i / 2) 0) p v))) f ∙ ap (λ es. half_entry (b % 16) ∷ (half_entry (b / 16) ∷ es)) (halves_set bs i v h)
 
-half_set : (bs : List ℕ) (i v : ℕ) → i < count_of (half_meaning bs) → v < 16 → half_meaning (set bs (i / 2) (with_half (get_or bs (i / 2) 0) (i % 2) v)) ≡ with_entry (half_meaning bs) i (half_entry v)
+pub half_set : (bs : List ℕ) (i v : ℕ) → i < count_of (half_meaning bs) → v < 16 → half_meaning (set bs (i / 2) (with_half (get_or bs (i / 2) 0) (i % 2) v)) ≡ with_entry (half_meaning bs) i (half_entry v)
 half_set bs i v h k =
     let n = half_count bs in
     let F : List Entry → Meaning = λ es. record { entries = es; alphabet = 15 } in
