@@ -18,9 +18,11 @@ pub trait Store {
     // The ghost names of the references that the store has borrowed: whoever lent them learns by the names what stands behind them in the end.
     ghost lent: { Self → List ℕ };
 
-    // How many entries there are.
+    // How many entries there are. Every symbol in them is below the alphabet.
+    // A clause and no law: a law would speak of values whose numbers do not fit their types, so of more stores than there are.
     fn count(&self) -> usize
-        ensures { result ≡ count_of (meaning self.now) };
+        ensures is { result ≡ count_of (meaning self.now) }
+        ensures sound { Sound (meaning self.now) };
 
     fn alphabet(&self) -> u8
         ensures { result ≡ (meaning self.now).alphabet };
@@ -31,9 +33,6 @@ pub trait Store {
         ensures same { meaning self.new ≡ meaning self.old }
         ensures kept { kept self.new ≡ kept self.old }
         ensures lent { lent self.new ≡ lent self.old };
-
-    // Every symbol is below the alphabet.
-    ghost sound: { (s : Self) → Sound (meaning s) };
 }
 
 pub trait WritableStore: Store {

@@ -1,8 +1,9 @@
 // A layer over a store.
 ghost use Rattle.std.specs.Prelude.{◌≡◌};
-ghost use Rattle.cells.specs.Stores.{count_of};
+ghost use Rattle.cells.specs.Stores.{Sound, count_of};
 ghost use Rattle.layer.specs.Places.{LayerKept, Passes};
 
+use crate::calls::{put_at, read_at, wipe_at};
 use crate::placing::Placing;
 use cells::{Entry, Store, StoreFault, WritableStore};
 
@@ -48,10 +49,9 @@ impl<S: Store, P: Placing> Store for Layer<S, P> {
 
     ghost lent = { λ l. S.lent l.below };
 
-    ghost sound = { λ l. P.sound l.placing (S.meaning l.below) (S.sound l.below) };
-
     fn count(&self) -> usize
         ensures is { result ≡ count_of (P.view self.now.placing (S.meaning self.now.below)) }
+        ensures sound { Sound (P.view self.now.placing (S.meaning self.now.below)) }
         ensures room { P.Room self.now.placing result }
     {
         self.placing.shown(self.below.count())
@@ -62,19 +62,19 @@ impl<S: Store, P: Placing> Store for Layer<S, P> {
     }
 
     fn read(&mut self, i: usize) -> Result<Entry, StoreFault> {
-        let at = self.place(i).ok_or(StoreFault::NoEntry { position: i })?;
-        self.below.read(at).map_err(|fault| fault.at(i))
+        let place = self.place(i);
+        read_at(&mut self.below, place, i)
     }
 }
 
 impl<S: WritableStore, P: Placing> WritableStore for Layer<S, P> {
     fn put(&mut self, i: usize, symbol: u8) -> Result<(), StoreFault> {
-        let at = self.place(i).ok_or(StoreFault::NoEntry { position: i })?;
-        self.below.put(at, symbol).map_err(|fault| fault.at(i))
+        let place = self.place(i);
+        put_at(&mut self.below, place, i, symbol)
     }
 
     fn wipe(&mut self, i: usize) -> Result<(), StoreFault> {
-        let at = self.place(i).ok_or(StoreFault::NoEntry { position: i })?;
-        self.below.wipe(at).map_err(|fault| fault.at(i))
+        let place = self.place(i);
+        wipe_at(&mut self.below, place, i)
     }
 }

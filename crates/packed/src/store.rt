@@ -60,8 +60,6 @@ impl<'a, P: Packing> Store for Packed<'a, P> {
 
     ghost lent = { λ s. s.bytes.ghost_name ∷ [] };
 
-    ghost sound = { λ s. P.sound s.bytes.now };
-
     fn count(&self) -> usize {
         P::count(self.bytes)
     }
