@@ -1,13 +1,14 @@
 -- How long reports are.
-use Rattle.std.proofs.Common.{◌≡◌, ℕ, ◌+◌, ◌*◌, ◌<◌, ◌≤◌, true, false, cond, eqb, List, [], ◌∷◌, map, length, Some, None, Option, refl, arith}
+use Rattle.std.proofs.Common.{◌≡◌, ℕ, ◌+◌, ◌*◌, ◌^◌, ◌<◌, ◌≤◌, true, false, cond, eqb, List, [], ◌∷◌, map, length, get_or, Some, None, Option, refl, arith}
 use Rattle.std.specs.List.{AllByRecursion, join_with_byte}
-use Rattle.std.proofs.ByRecursion.{All-map, All-weaker}
+use Rattle.std.proofs.ByRecursion.{All-from_get_or, All-map, All-weaker}
 use Rattle.std.proofs.lemmas.List.{length-append, length-map}
+use Rattle.report.specs.Room.{room}
 use Rattle.report.specs.Reports.{Mark, bit, chosen, mark_of, comma, numeral, symbol_text, mark_text, marks_text, report_text, header_text, ShortSymbol, ShortMark, Short, ShortFits}
 use Rattle.report.specs.Reports.Mark.{At, Infinity}
 use Rattle.report.specs.Reports.Report.{Accepted, Refused}
 use Rattle.report.specs.Meant.{meant_marks}
-use Rattle.report.proofs.Chosen.{all_chosen, chosen_apart}
+use Rattle.report.proofs.Chosen.{all_chosen, few_chosen, chosen_apart}
 use Rattle.report.proofs.Numerals.{length_numeral_le}
 
 -- of at most three bytes
@@ -69,3 +70,32 @@ short_accepted line symbol marks q wrong missing l s small few apart =
 
 pub header_length : length header_text ≡ 33
 header_length = refl
+
+mark_byte_brief : (q t : ℕ) → t < 256 → Brief (mark_of q t)
+mark_byte_brief q t h =
+    let l = length_numeral_le 3 t (omega arith) (omega arith) in
+    elim (eqb t q) as (λ b. Brief (cond b Infinity (At t))) [ true ↦ omega arith | false ↦ l ]
+
+chosen_brief : (marks : List ℕ) (q n : ℕ) → ((i : ℕ) → get_or marks i 0 < 256) → AllByRecursion Brief (meant_marks marks q n)
+chosen_brief marks q n bytes =
+    All-map Brief (mark_of q) (chosen marks n)
+    (All-weaker (λ t. t < 256) (λ t. Brief (mark_of q t)) (mark_byte_brief q) (chosen marks n)
+    (all_chosen (λ t. t < 256) 0 marks n (All-from_get_or (λ t. t < 256) marks 0 (λ i h. bytes i))))
+
+-- a report of bytes has room
+pub accepted_room : (line : ℕ) (symbol : Option ℕ) (marks : List ℕ) (q wrong missing : ℕ)
+    → line < 2 ^ 32 → ShortSymbol symbol → ((i : ℕ) → get_or marks i 0 < 256) → wrong < 2 ^ 32 → missing < 2 ^ 32
+    → length (report_text (Accepted line symbol (meant_marks marks q wrong) (meant_marks marks q missing))) ≤ room
+accepted_room line symbol marks q wrong missing l s bytes w m =
+    let few-wrong = few_chosen 32 0 marks wrong w in
+    let few-missing = few_chosen 32 0 marks missing m in
+    let lw = length-map (chosen marks wrong) (mark_of q) in
+    let lm = length-map (chosen marks missing) (mark_of q) in
+    let h = accepted_length line symbol (meant_marks marks q wrong) (meant_marks marks q missing) 10 64 (length_numeral_le 10 line (omega arith) (omega arith)) (symbol_brief symbol s)
+    (chosen_brief marks q wrong bytes) (chosen_brief marks q missing bytes) (omega arith) in
+    omega arith
+
+pub refused_room : (line number : ℕ) → line < 2 ^ 32 → number < 256 → length (report_text (Refused line number)) ≤ room
+refused_room line number l n =
+    let h = refused_length line number 10 3 (length_numeral_le 10 line (omega arith) (omega arith)) (length_numeral_le 3 number (omega arith) (omega arith)) in
+    omega arith

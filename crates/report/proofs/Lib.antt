@@ -1,6 +1,7 @@
-mod Numerals
+pub mod Numerals
 mod Listed
-mod Chosen
+pub mod Chosen
 mod Pieces
-mod Lengths
-mod ReadBack
+pub mod Lengths
+pub mod ReadBack
+pub mod Places

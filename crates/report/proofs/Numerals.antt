@@ -1,12 +1,32 @@
 -- The digits of a number.
-use Rattle.std.proofs.Common.{◌≡◌, ℕ, zero, suc, ◌+◌, ◌-◌, ◌^◌, ◌<◌, ◌≤◌, List, [], ◌∷◌, map, length, sym, refl, ap, ◌∙◌, arith}
+use Rattle.std.proofs.Common.{◌≡◌, ℕ, zero, suc, ◌+◌, ◌-◌, ◌/◌, ◌%◌, ◌^◌, ◌<◌, ◌≤◌, List, [], ◌∷◌, ◌++◌, map, length, sym, refl, ap, ◌∙◌, arith}
 use Rattle.std.specs.Int.Digits.{digits_of, number_from_digits, AllBelowBase}
 use Rattle.std.specs.List.{AllByRecursion}
-use Rattle.std.proofs.lemmas.Int.Digits.{length-digits_of-le, all_below_base_digits_of, number_digits_of}
+use Rattle.std.proofs.lemmas.Int.Digits.{digits_of_step, length-digits_of-le, all_below_base_digits_of, number_digits_of}
 use Rattle.std.proofs.lemmas.Fmt.{decimal-digits_of, decimal_digit}
-use Rattle.std.proofs.lemmas.List.{length-map}
+use Rattle.std.proofs.lemmas.List.{map_push, length-map}
 use Rattle.report.specs.Reports.{numeral, NumeralsDecimal}
 use Rattle.report.specs.Reading.{number_in}
+
+positive : (n : ℕ) → 0 < n → numeral n ≡ map (λ d. 48 + d) (digits_of 10 n)
+unfolding numeral
+positive zero h = absurd (omega arith)
+positive (suc n) h = refl
+
+pub numeral_digit : (n : ℕ) → n < 10 → numeral n ≡ (48 + n) ∷ []
+unfolding numeral
+numeral_digit zero h = refl
+numeral_digit (suc n) h =
+    let z : suc n / 10 ≡ 0 = omega arith in
+    let m : suc n % 10 ≡ suc n = omega arith in
+    ap (map (λ d. 48 + d)) (digits_of_step 10 (suc n) (omega arith) (omega arith) ∙ ap (λ k. digits_of 10 k ++ (suc n % 10 ∷ [])) z) ∙ ap (λ k. (48 + k) ∷ []) m
+
+pub numeral_step : (n : ℕ) → 10 ≤ n → numeral n ≡ numeral (n / 10) ++ ((48 + n % 10) ∷ [])
+numeral_step n h =
+    positive n (omega arith)
+    ∙ ap (map (λ d. 48 + d)) (digits_of_step 10 n (omega arith) (omega arith))
+    ∙ map_push (λ d. 48 + d) (digits_of 10 (n / 10)) (n % 10)
+    ∙ ap (λ l. l ++ ((48 + n % 10) ∷ [])) (sym (positive (n / 10) (omega arith)))
 
 pub numerals_decimal : NumeralsDecimal
 unfolding numeral

@@ -1,6 +1,7 @@
 // Texts put together. Each step says how many bytes it may take, and the room is enough for all of them.
 // No Display: its law says what a fmt that succeeds wrote, but not that it succeeds, and writing a report must not fail.
-ghost use Rattle.std.specs.Prelude.{◌≡◌, [], ◌∷◌, ◌++◌, length};
+ghost use Rattle.std.specs.Prelude.{◌≡◌, ◌≤◌, [], ◌∷◌, ◌++◌, length};
+ghost use Rattle.report.specs.Room.{room};
 ghost use Rattle.report.specs.Written.{written, RoomFor, LongerBy};
 ghost use Rattle.report.specs.Reports.{chosen, symbol_text, mark_text, mark_of, marks_text, report_text};
 ghost use Rattle.report.specs.Meant.{meant, meant_marks};
@@ -13,21 +14,22 @@ use itoa::{Buffer, Integer};
 // As many marks have a bit.
 const BITS: usize = 32;
 
-// The marks whose bit is set.
-fn chosen(marks: &[u8], bits: u32) -> ArrayVec<u8, BITS>
-    ensures { result.items ≡ chosen marks.now bits }
+// Fills an empty list, where it stands, with the marks whose bit is set.
+fn choose(list: &mut ArrayVec<u8, BITS>, marks: &[u8], bits: u32)
+    requires { list.old.items ≡ [] }
+    ensures { list.new.items ≡ chosen marks.now bits }
 {
-    let mut chosen = ArrayVec::new();
-    for (i, mark) in marks.iter().enumerate().take(BITS) {
+    // No mark past the highest bit is chosen.
+    let width = BITS - bits.leading_zeros() as usize;
+    for (i, mark) in marks.iter().enumerate().take(width) {
         if (bits >> i) % 2 == 1 {
-            chosen.push(*mark);
+            list.push(*mark);
         }
     }
-    chosen
 }
 
 impl Text {
-    fn new() -> Text
+    pub(crate) fn new() -> Text
         ensures { written result ≡ [] }
     {
         Text {
@@ -36,7 +38,8 @@ impl Text {
     }
 
     pub(crate) fn as_slice(&self) -> &[u8]
-        ensures { result.now ≡ written self.now }
+        ensures text { result.now ≡ written self.now }
+        ensures few { length result.now ≤ room }
     {
         self.bytes.as_slice()
     }
@@ -63,7 +66,10 @@ impl Text {
         ensures longer { LongerBy N.MAX_STR_LEN self.old self.new }
     {
         let mut buffer = Buffer::new();
-        self.push_bytes(buffer.format(n).as_bytes());
+        // One by one, since a copy of so few bytes takes longer.
+        for digit in buffer.format(n).as_bytes() {
+            self.push(*digit);
+        }
     }
 
     #[tactic(auto, using(crate::proofs::Numerals::numerals_decimal))]
@@ -98,7 +104,8 @@ impl Text {
         ensures text { written self.new ≡ written self.old ++ marks_text (meant_marks marks.now infinity bits) }
         ensures longer { LongerBy 128 self.old self.new }
     {
-        let chosen = chosen(marks, bits);
+        let mut chosen = ArrayVec::new();
+        choose(&mut chosen, marks, bits);
         let Some((first, others)) = chosen.split_first() else {
             self.push(b'-');
             return;
@@ -109,14 +116,14 @@ impl Text {
             self.push_mark(*mark, infinity);
         }
     }
-}
 
-impl<'a> From<&Report<'a>> for Text {
-    ghost from_gives = { λ report text. written text ≡ report_text (meant report.now) };
-
+    // Into the text where it stands: a text is long, and one that is handed on is copied.
     #[tactic(auto, using(crate::proofs::Pieces::accepted_pieces, crate::proofs::Pieces::refused_pieces, crate::proofs::Numerals::numerals_decimal))]
-    fn from(report: &Report<'a>) -> Text {
-        let mut text = Text::new();
+    pub(crate) fn push_report(&mut self, report: &Report)
+        requires { RoomFor room self.old }
+        ensures text { written self.new ≡ written self.old ++ report_text (meant report.now) }
+        ensures longer { LongerBy room self.old self.new }
+    {
         match *report {
             Report::Accepted {
                 line,
@@ -126,22 +133,21 @@ impl<'a> From<&Report<'a>> for Text {
                 wrong,
                 missing,
             } => {
-                text.push_number(line);
-                text.push_bytes(b" ok ");
-                text.push_symbol(symbol);
-                text.push(b' ');
-                text.push_marks(marks, infinity, wrong);
-                text.push(b' ');
-                text.push_marks(marks, infinity, missing);
-                text.push(b'\n');
+                self.push_number(line);
+                self.push_bytes(b" ok ");
+                self.push_symbol(symbol);
+                self.push(b' ');
+                self.push_marks(marks, infinity, wrong);
+                self.push(b' ');
+                self.push_marks(marks, infinity, missing);
+                self.push(b'\n');
             }
             Report::Refused { line, number } => {
-                text.push_number(line);
-                text.push(b' ');
-                text.push_number(number);
-                text.push_bytes(b" - - -\n");
+                self.push_number(line);
+                self.push(b' ');
+                self.push_number(number);
+                self.push_bytes(b" - - -\n");
             }
         }
-        text
     }
 }
