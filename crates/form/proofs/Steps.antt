@@ -1,7 +1,7 @@
 -- The steps of `over`.
 use Rattle.std.proofs.Common.{◌≡◌, ℕ, zero, suc, ◌+◌, ◌-◌, ◌<◌, ◌≤◌, List, [], ◌∷◌, length, get_or, take, drop, set, sym, refl, ap, ◌∙◌, ⊎_elim, arith}
 use Rattle.std.proofs.lemmas.Bool.{cases_eq}
-use Rattle.std.proofs.lemmas.List.{get_or-set_same, get_or-set_other, take_rest, length-drop}
+use Rattle.std.proofs.lemmas.List.{get_or-set_same, get_or-set_other, get_or-drop, take_rest, length-drop}
 use Rattle.poly.specs.Poly.{last}
 use Rattle.field.specs.Algebra.{Algebra, ops, power}
 use Rattle.form.specs.Evaluation.{terms, nested, Powers}
@@ -66,6 +66,15 @@ terms_more n j (suc d) h l =
     (λ (u : j ≡ suc d → ⊥). omega (arith, terms_more n j d h (omega arith), terms_step n d h))
     (cases_eq j (suc d))
 
+-- what follows the first of a list, as a slice has it
+pub rest_long : (xs : List ℕ) → length (take (length xs - 1) (drop 1 xs)) ≡ length xs - 1
+rest_long xs = ap length (take_rest xs 1) ∙ length-drop 1 xs
+
+pub rest_at : (xs : List ℕ) (j : ℕ) → get_or (take (length xs - 1) (drop 1 xs)) j 0 ≡ get_or xs (j + 1) 0
+rest_at xs j =
+    let n : 1 + j ≡ j + 1 = omega arith in
+    ap (λ ys. get_or ys j 0) (take_rest xs 1) ∙ get_or-drop 1 xs j 0 ∙ ap (λ i. get_or xs i 0) n
+
 -- the coordinates after the first
 pub record Later (xs ys : List ℕ) : Type 0 where
   pub is : ys ≡ drop 1 xs
@@ -75,7 +84,35 @@ pub record Later (xs ys : List ℕ) : Type 0 where
 pub later : (xs : List ℕ) → 2 ≤ length xs → Later xs (take (length xs - 1) (drop 1 xs))
 later xs two =
     let r : take (length xs - 1) (drop 1 xs) ≡ drop 1 xs = take_rest xs 1 in
-    record { is = r; long = ap length r ∙ length-drop 1 xs; same_last = ap (last 0) r ∙ last_rest xs two }
+    record { is = r; long = rest_long xs; same_last = ap (last 0) r ∙ last_rest xs two }
 
-pub terms_of_one : (xs : List ℕ) (d : ℕ) → length xs ≡ 1 → terms (length xs) d ≡ 1
-terms_of_one xs d e = ap (λ n. terms n d) e ∙ terms_one d
+-- at two coordinates each degree of the first has one coefficient
+terms_two : (d : ℕ) → terms 2 d ≡ d + 1
+terms_two zero = refl
+terms_two (suc d) = omega (arith, terms_two d, terms_one (suc d))
+
+pub terms_of_two : (xs : List ℕ) (d : ℕ) → length xs ≡ 2 → terms (length xs) d ≡ d + 1
+terms_of_two xs d e = ap (λ n. terms n d) e ∙ terms_two d
+
+module _ (F : Algebra) where
+  lone : (xs : List ℕ) (d : ℕ) (cs : List ℕ) → length xs ≡ 2
+      → nested (ops F) (drop 1 xs) d cs ≡ F.times (get_or cs 0 0) (power (ops F) (last 0 xs) d)
+  lone xs d cs two =
+      nested_one F (drop 1 xs) d cs (length-drop 1 xs ∙ ap (λ n. n - 1) two)
+      ∙ ap (λ y. F.times (get_or cs 0 0) (power (ops F) y d)) (last_rest xs (omega (arith, two)))
+
+  pub two_start : (xs cs : List ℕ) → length xs ≡ 2 → nested (ops F) xs 0 cs ≡ F.times (get_or cs 0 0) (power (ops F) (last 0 xs) 0)
+  two_start xs cs two = nested_start F xs cs (omega (arith, two)) ∙ lone xs 0 cs two
+
+  pub two_step : (xs : List ℕ) (j : ℕ) (cs : List ℕ) → length xs ≡ 2
+      → nested (ops F) xs (j + 1) cs
+      ≡ F.plus (F.times (nested (ops F) xs j cs) (get_or xs 0 0)) (F.times (get_or cs (j + 1) 0) (power (ops F) (last 0 xs) (j + 1)))
+  two_step xs j cs two =
+      let m : j + 1 ≡ suc j = omega arith in
+      let k = terms (length xs) j in
+      let n : k + 0 ≡ suc j = omega (arith, terms_of_two xs j two) in
+      let c : get_or (drop k cs) 0 0 ≡ get_or cs (suc j) 0 = get_or-drop k cs 0 0 ∙ ap (λ i. get_or cs i 0) n in
+      rw m
+      (nested_step F xs j cs (omega (arith, two))
+      ∙ ap (F.plus (F.times (nested (ops F) xs j cs) (get_or xs 0 0)))
+      (lone xs (suc j) (drop k cs) two ∙ ap (λ w. F.times w (power (ops F) (last 0 xs) (suc j))) c))

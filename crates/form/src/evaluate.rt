@@ -20,18 +20,37 @@ fn powers<F: Field>(shape: Shape, x: u8) -> [u8; 16]
     table
 }
 
-// The value of the form of degree d over the coordinates xs, whose coefficients cs begins with, and what follows them.
-// The form is taken as a polynomial in its first coordinate; `table` has the powers of the last one.
-fn over<'a, F: Field>(xs: &[u8], table: &[u8; 16], d: usize, cs: &'a [u8]) -> (u8, &'a [u8])
-    requires many { 0 < length xs.now }
+// `over` at two coordinates, the fewest that a shape has.
+// Each degree of the first one has one coefficient here: a loop takes them in turn, since a call for each would cost more than its products.
+fn over_two<'a, F: Field>(xs: &[u8], table: &[u8; 16], d: usize, cs: &'a [u8]) -> (u8, &'a [u8])
+    requires two { length xs.now ≡ 2 }
     requires low { d < 16 }
     requires right { Powers (ops F.algebra) (last 0 xs.now) d table.now }
     requires enough { terms (length xs.now) d ≤ length cs.now }
     ensures made { result.0 ≡ nested (ops F.algebra) xs.now d cs.now }
     ensures rest { result.1.now ≡ drop (terms (length xs.now) d) cs.now }
 {
-    if xs.len() == 1 {
-        return (F::mul(cs[0], table[d]), &cs[1..]);
+    let x = xs[0];
+    let (own, rest) = cs.split_at(d + 1);
+    let mut total = F::mul(own[0], table[0]);
+    for (c, power) in own[1..].iter().zip(&table[1..]) {
+        total = F::add(F::mul(total, x), F::mul(*c, *power));
+    }
+    (total, rest)
+}
+
+// The value of the form of degree d over the coordinates xs, whose coefficients cs begins with, and what follows them.
+// The form is taken as a polynomial in its first coordinate; `table` has the powers of the last one.
+fn over<'a, F: Field>(xs: &[u8], table: &[u8; 16], d: usize, cs: &'a [u8]) -> (u8, &'a [u8])
+    requires many { 1 < length xs.now }
+    requires low { d < 16 }
+    requires right { Powers (ops F.algebra) (last 0 xs.now) d table.now }
+    requires enough { terms (length xs.now) d ≤ length cs.now }
+    ensures made { result.0 ≡ nested (ops F.algebra) xs.now d cs.now }
+    ensures rest { result.1.now ≡ drop (terms (length xs.now) d) cs.now }
+{
+    if xs.len() == 2 {
+        return over_two::<F>(xs, table, d, cs);
     }
     let x = xs[0];
     let later = &xs[1..];
